@@ -1,0 +1,24 @@
+//! Geometry, shapes, walks and the test for conflicts: what every other crate speaks of.
+#![tactic(auto)]
+
+mod distance;
+mod geometry;
+mod grid;
+mod memory;
+mod name;
+mod seq;
+mod spacing;
+mod tech;
+mod token;
+mod walk;
+
+pub use distance::gap;
+pub use geometry::{Point, Rect, Span};
+pub use grid::Grid;
+pub use memory::Memory;
+pub use name::Name;
+pub use seq::Seq;
+pub use spacing::conflict;
+pub use tech::{Layer, LayerNo, Owner, Shape, SpacingTable, Tech, Via};
+pub use token::Token;
+pub use walk::{Edge, EdgeKind, Entry, EntryKind, Vertex, Walk};
