@@ -1,0 +1,12 @@
+pub mod Levels
+pub mod Guide
+pub mod Metal
+pub mod Edges
+pub mod Entries
+pub mod Walks
+pub mod States
+pub mod Searches
+pub mod Histories
+pub mod Orders
+pub mod Strokes
+pub mod Designs

@@ -1,0 +1,46 @@
+-- Rectangles of wires and vias on their layers.
+use Rattle.std.specs.Prelude.{ℕ, ◌+◌, ◌/◌, ℤ, pos, ◌+ℤ◌, ◌-ℤ◌, List, [], false, map, slice_get, option_map, unwrap_or, unsigned_abs}
+use Rattle.rt_base.specs.Sides.{Sides}
+use Rattle.rt_base.specs.declared.geometry.Point.{Point}
+use Rattle.rt_base.specs.declared.tech.LayerNo.{LayerNo}
+use Rattle.rt_base.specs.declared.tech.Owner.TheVariants.{Net as OfNet}
+use Rattle.rt_base.specs.declared.tech.Shape.{Shape}
+use Rattle.rt_base.specs.declared.tech.Tech.{Tech}
+use Rattle.rt_base.specs.declared.tech.Via.{Via}
+use Rattle.track_graph.specs.Guide.{hull_of}
+use Rattle.track_graph.specs.Levels.{layer_no, width_of}
+
+-- a rectangle on a layer
+abbrev pub Metal : Type 0
+Metal = LayerNo × Sides
+
+-- the distance in x plus the distance in y
+abbrev pub distance : Point → Point → ℕ
+distance p q = unsigned_abs (p.x -ℤ q.x) + unsigned_abs (p.y -ℤ q.y)
+
+-- a rectangle made larger by h on each side
+abbrev pub grown : Sides → ℤ → Sides
+grown s h = record { xl = s.xl -ℤ h; yl = s.yl -ℤ h; xh = s.xh +ℤ h; yh = s.yh +ℤ h }
+
+-- a rectangle moved by a point
+abbrev pub moved : Point → Sides → Sides
+moved p s = record { xl = s.xl +ℤ p.x; yl = s.yl +ℤ p.y; xh = s.xh +ℤ p.x; yh = s.yh +ℤ p.y }
+
+abbrev pub half_width : Tech → ℕ → ℤ
+half_width tech level = pos (unsigned_abs (width_of tech level) / 2)
+
+-- the hull of the squares of the level's width round two points
+abbrev pub wire_metal : Tech → ℕ → Point → Point → Metal
+wire_metal tech level p q = (record { 0 = layer_no tech level }, grown (hull_of p q) (half_width tech level))
+
+-- the rectangles of a via with this number, at (0, 0); none where there is no such via
+abbrev pub via_rects : Tech → ℕ → List Metal
+via_rects tech k = unwrap_or (option_map (λ (v : Via). v.rects) (slice_get tech.vias k)) []
+
+-- the rectangles of a via at a point
+abbrev pub via_metal : Tech → ℕ → Point → List Metal
+via_metal tech k p = map (λ (r : Metal). (r.0, moved p r.1)) (via_rects tech k)
+
+-- rectangles of a net's wires, as shapes
+abbrev pub shapes_of : ℕ → List Metal → List Shape
+shapes_of n metal = map (λ (m : Metal). record { layer = m.0; rect = m.1; owner = OfNet n; fixed = false }) metal
