@@ -1,0 +1,236 @@
+-- Worked examples of the definitions: a chip of two levels, whose costs, shapes and strokes were counted by hand.
+use Rattle.std.proofs.Common.{◌≡◌, ℕ, ◌<◌, ◌≤◌, ℤ, pos, negsuc, ◌≤ℤ◌, ◌<ℤ◌, ◌⊎◌, List, [], ◌∷◌, ◌++◌, Bool, true, false, refl, inl, inr, arith}
+use Rattle.rt_base.specs.Sides.{Sides}
+use Rattle.rt_base.specs.Conflict.{conflict_of}
+use Rattle.rt_base.specs.Geometry.{Holds}
+use Rattle.rt_base.specs.declared.geometry.Point.{Point}
+use Rattle.rt_base.specs.declared.tech.Layer.{Layer}
+use Rattle.rt_base.specs.declared.tech.LayerNo.{LayerNo}
+use Rattle.rt_base.specs.declared.tech.Owner.{Owner}
+use Rattle.rt_base.specs.declared.tech.Owner.TheVariants.{Net as OfNet, Nobody}
+use Rattle.rt_base.specs.declared.tech.Shape.{Shape}
+use Rattle.rt_base.specs.declared.tech.Tech.{Tech}
+use Rattle.rt_base.specs.declared.tech.Via.{Via}
+use Rattle.rt_base.specs.declared.walk.Edge.{Edge}
+use Rattle.rt_base.specs.declared.walk.EdgeKind.TheVariants.{Along, Via as ByVia}
+use Rattle.rt_base.specs.declared.walk.Entry.{Entry}
+use Rattle.rt_base.specs.declared.walk.EntryKind.TheVariants.{Pin as AtPin, Stub, Wire as OnWire}
+use Rattle.rt_base.specs.declared.walk.Vertex.{Vertex}
+use Rattle.rt_base.specs.declared.walk.Walk.{Walk}
+use Rattle.track_graph.specs.declared.design.Design.{Design}
+use Rattle.track_graph.specs.declared.design.Net.{Net}
+use Rattle.track_graph.specs.declared.design.NetKind.TheVariants.{Routable}
+use Rattle.track_graph.specs.declared.design.Pin.{Pin}
+use Rattle.track_graph.specs.declared.history.Stroke.{Stroke}
+use Rattle.track_graph.specs.declared.history.Stroke.TheVariants.{Run, Via as ViaAt}
+use Rattle.track_graph.specs.Metal.{Metal}
+use Rattle.track_graph.specs.States.{first_state}
+use Rattle.track_graph.specs.Searches.{hard_reading, some_conflict, walk_cost}
+use Rattle.track_graph.specs.Strokes.{walk_strokes}
+use Rattle.track_graph.specs.Walks.{walk_shapes_of, end_of}
+use Rattle.track_graph.specs.Guide.{Guide, InGuide, RunsInGuide}
+use Rattle.track_graph.proofs.Lists.{Any-cases, Any-none, Any-here, Any-there}
+use Rattle.std.proofs.lemmas.Int.{ints}
+use Rattle.std.proofs.lemmas.Bool.{cases_lt}
+
+-- ---- the chip
+
+abbrev sides : ℤ → ℤ → ℤ → ℤ → Sides
+sides xl yl xh yh = record { xl = xl; yl = yl; xh = xh; yh = yh }
+
+abbrev no : ℕ → LayerNo
+no n = record { 0 = n }
+
+abbrev layer : List ℕ → Bool → Bool → Layer
+layer name routing horizontal = record { name = name; routing = routing; horizontal = horizontal; width = pos 100; spacing = pos 100; table = record { lengths = []; rows = [] } }
+
+abbrev pad : Sides
+pad = sides (negsuc 49) (negsuc 49) (pos 50) (pos 50)
+
+abbrev via : Via
+via = record { name = 86 ∷ []; usable = true; rects = (no 0, pad) ∷ (no 1, sides (negsuc 24) (negsuc 24) (pos 25) (pos 25)) ∷ (no 2, pad) ∷ [] }
+
+abbrev tech : Tech
+tech = record { layers = layer (77 ∷ 49 ∷ []) true true ∷ layer (67 ∷ []) false false ∷ layer (77 ∷ 50 ∷ []) true false ∷ []; vias = via ∷ [] }
+
+abbrev lines : List ℤ
+lines = pos 100 ∷ pos 300 ∷ pos 500 ∷ pos 700 ∷ pos 900 ∷ pos 1100 ∷ pos 1300 ∷ pos 1500 ∷ pos 1700 ∷ pos 1900 ∷ []
+
+abbrev die : Sides
+die = sides (pos 0) (pos 0) (pos 2000) (pos 2000)
+
+abbrev at : ℕ → ℕ → ℕ → Vertex
+at level x y = record { level = level; point = record { x = pos x; y = pos y } }
+
+-- a pin round a vertex
+abbrev pin_at : ℕ → ℕ → ℕ → ℕ → Pin
+pin_at k level x y = record { comp = []; pin = []; rects = []; entries = record { vertex = at level x y; kind = AtPin k } ∷ [] }
+
+abbrev net : List Pin → Net
+net pins = record { name = 97 ∷ []; pins = pins; guide = (0, die) ∷ (1, die) ∷ []; kind = Routable; close = 0 }
+
+abbrev chip : List Pin → List Shape → Design
+chip pins fixed = record { tech = tech; tracks = record { lines = lines ∷ lines ∷ []; largest_step = pos 200 ∷ pos 200 ∷ [] }; grid = record { die = die; tile = pos 6400 }; nets = net pins ∷ []; fixed = fixed; options = record { via = 1000; tile = pos 6400; rips = 3 }; skipped = [] }
+
+abbrev along : ℕ → ℕ → ℕ → Edge
+along level x y = record { kind = Along; to = at level x y }
+
+abbrev by_via : ℕ → ℕ → ℕ → Edge
+by_via level x y = record { kind = ByVia 0; to = at level x y }
+
+abbrev run : ℕ → ℕ → ℕ → ℕ → ℕ → Stroke
+run level ax ay bx by_ = Run level (record { x = pos ax; y = pos ay }) (record { x = pos bx; y = pos by_ })
+
+abbrev via_at : ℕ → ℕ → Stroke
+via_at x y = ViaAt 0 (record { x = pos x; y = pos y })
+
+-- ---- from (100, 100) on the lower level to (900, 500) on the upper one
+
+abbrev corner_chip : Design
+corner_chip = chip (pin_at 0 0 100 100 ∷ pin_at 1 1 900 500 ∷ []) []
+
+abbrev corner : Walk
+corner = record {
+  start = record { vertex = at 0 100 100; kind = AtPin 0 };
+  edges = along 0 300 100 ∷ along 0 500 100 ∷ along 0 700 100 ∷ along 0 900 100 ∷ by_via 1 900 100 ∷ along 1 900 300 ∷ along 1 900 500 ∷ [];
+  finish = record { vertex = at 1 900 500; kind = AtPin 1 };
+}
+
+-- 800 + 1000 + 400
+corner_cost : walk_cost corner_chip (hard_reading corner_chip (first_state corner_chip)) 0 corner ≡ 2200
+corner_cost = refl
+
+corner_strokes : walk_strokes corner_chip 0 corner ≡ run 0 100 100 900 100 ∷ via_at 900 100 ∷ run 1 900 100 900 500 ∷ []
+corner_strokes = refl
+
+corner_arrives : end_of corner.start.vertex corner.edges ≡ corner.finish.vertex
+corner_arrives = refl
+
+-- ---- both pins at one vertex
+
+abbrev spot : Walk
+spot = record { start = record { vertex = at 0 300 300; kind = AtPin 0 }; edges = []; finish = record { vertex = at 0 300 300; kind = AtPin 1 } }
+
+spot_cost : walk_cost corner_chip (hard_reading corner_chip (first_state corner_chip)) 0 spot ≡ 0
+spot_cost = refl
+
+spot_strokes : walk_strokes corner_chip 0 spot ≡ []
+spot_strokes = refl
+
+-- ---- a straight wire, wires beside it, and blockages
+
+abbrev straight : ℕ → Walk
+straight y = record {
+  start = record { vertex = at 0 100 y; kind = AtPin 0 };
+  edges = along 0 300 y ∷ along 0 500 y ∷ along 0 700 y ∷ along 0 900 y ∷ [];
+  finish = record { vertex = at 0 900 y; kind = AtPin 1 };
+}
+
+abbrev wire_shapes : ℕ → ℕ → List Shape
+wire_shapes n y = walk_shapes_of corner_chip n (straight y)
+
+abbrev blockage : ℕ → ℕ → Shape
+blockage yl yh = record { layer = no 0; rect = sides (pos 480) (pos yl) (pos 520) (pos yh); owner = Nobody; fixed = true }
+
+-- two tracks are 100 units apart, edge to edge
+beside : some_conflict tech (wire_shapes 0 100) (wire_shapes 1 300) ≡ false
+beside = refl
+
+hundred_away : some_conflict tech (wire_shapes 0 100) (blockage 250 251 ∷ []) ≡ false
+hundred_away = refl
+
+ninety_nine_away : some_conflict tech (wire_shapes 0 100) (blockage 249 251 ∷ []) ≡ true
+ninety_nine_away = refl
+
+-- the next track is closed by the same blockage
+next_track : some_conflict tech (wire_shapes 0 300) (blockage 249 251 ∷ []) ≡ true
+next_track = refl
+
+-- the way round over the track at 500: 800 + 800 + 4 vias
+abbrev detour : Walk
+detour = record {
+  start = record { vertex = at 0 100 100; kind = AtPin 0 };
+  edges = by_via 1 100 100 ∷ along 1 100 300 ∷ along 1 100 500 ∷ by_via 0 100 500
+    ∷ along 0 300 500 ∷ along 0 500 500 ∷ along 0 700 500 ∷ along 0 900 500
+    ∷ by_via 1 900 500 ∷ along 1 900 300 ∷ along 1 900 100 ∷ by_via 0 900 100 ∷ [];
+  finish = record { vertex = at 0 900 100; kind = AtPin 1 };
+}
+
+detour_cost : walk_cost corner_chip (hard_reading corner_chip (first_state corner_chip)) 0 detour ≡ 5600
+detour_cost = refl
+
+detour_clear : some_conflict tech (walk_shapes_of corner_chip 0 detour) (blockage 249 251 ∷ []) ≡ false
+detour_clear = refl
+
+-- ---- corners: 60 * 60 + 80 * 80 is 100 * 100, and 60 * 60 + 79 * 79 is less
+
+abbrev square : ℕ → ℕ → ℕ → ℕ → ℕ → Shape
+square n xl yl xh yh = record { layer = no 0; rect = sides (pos xl) (pos yl) (pos xh) (pos yh); owner = OfNet n; fixed = true }
+
+far_corners : conflict_of tech (square 0 0 0 100 100) (square 1 160 180 260 280) ≡ false
+far_corners = refl
+
+near_corners : conflict_of tech (square 0 0 0 100 100) (square 1 160 179 260 279) ≡ true
+near_corners = refl
+
+-- ---- a stub from the pin's corner (150, 150) in x and then in y
+
+abbrev stub_pin : Pin
+stub_pin = record { comp = []; pin = []; rects = (no 0, sides (pos 150) (pos 150) (pos 160) (pos 160)) ∷ []; entries = record { vertex = at 0 100 100; kind = Stub 0 0 } ∷ [] }
+
+abbrev stub_chip : Design
+stub_chip = chip (stub_pin ∷ pin_at 1 1 900 500 ∷ []) []
+
+abbrev stubbed : Walk
+stubbed = record corner { start = record { vertex = at 0 100 100; kind = Stub 0 0 } }
+
+-- 400 more
+stubbed_cost : walk_cost stub_chip (hard_reading stub_chip (first_state stub_chip)) 0 stubbed ≡ 2600
+stubbed_cost = refl
+
+stubbed_strokes : walk_strokes stub_chip 0 stubbed ≡ run 0 150 150 100 150 ∷ run 0 100 150 100 100 ∷ run 0 100 100 900 100 ∷ via_at 900 100 ∷ run 1 900 100 900 500 ∷ []
+stubbed_strokes = refl
+
+-- ---- guides: boxes that meet at a unit hold the run over it, and a gap of one unit doesn't
+
+abbrev meeting : Guide
+meeting = (0, sides (pos 0) (pos 0) (pos 399) (pos 200)) ∷ (0, sides (pos 400) (pos 0) (pos 1000) (pos 200)) ∷ []
+
+abbrev gaping : Guide
+gaping = (0, sides (pos 0) (pos 0) (pos 399) (pos 200)) ∷ (0, sides (pos 401) (pos 0) (pos 1000) (pos 200)) ∷ []
+
+abbrev point : ℕ → ℕ → Point
+point x y = record { x = pos x; y = pos y }
+
+abbrev BoxHolds : Point → ℕ × Sides → Type 0
+BoxHolds p box = (box.0 ≡ 0) × Holds box.1 p
+
+outside_gap : InGuide gaping 0 (point 400 100) → ⊥
+outside_gap h =
+    elim (Any-cases (BoxHolds (point 400 100)) (0, sides (pos 0) (pos 0) (pos 399) (pos 200)) ((0, sides (pos 401) (pos 0) (pos 1000) (pos 200)) ∷ []) h) [
+      | inl box ↦ let right = box.1.right in omega (arith, ints)
+      | inr others ↦ elim (Any-cases (BoxHolds (point 400 100)) (0, sides (pos 401) (pos 0) (pos 1000) (pos 200)) [] others) [
+          | inl box ↦ let left = box.1.left in omega (arith, ints)
+          | inr none ↦ Any-none (BoxHolds (point 400 100)) none
+        ]
+    ]
+
+gap_closed : RunsInGuide gaping 0 (point 300 100) (point 500 100) → ⊥
+gap_closed h = outside_gap (h (point 400 100) (record { left = omega (arith, ints); right = omega (arith, ints); low = omega (arith, ints); high = omega (arith, ints) }))
+
+cases_le : (x y : ℤ) → (x ≤ℤ y) ⊎ (y <ℤ x)
+cases_le (pos a) (pos b) = elim (cases_lt b a) [ inl lt ↦ inr (omega (arith, ints)) | inr le ↦ inl (omega (arith, ints)) ]
+cases_le (pos a) (negsuc b) = inr (omega (arith, ints))
+cases_le (negsuc a) (pos b) = inl (omega (arith, ints))
+cases_le (negsuc a) (negsuc b) = elim (cases_lt a b) [ inl lt ↦ inr (omega (arith, ints)) | inr le ↦ inl (omega (arith, ints)) ]
+
+meeting_open : RunsInGuide meeting 0 (point 300 100) (point 500 100)
+meeting_open r h =
+    let left = h.left in
+    let right = h.right in
+    let low = h.low in
+    let high = h.high in
+    elim (cases_le r.x (pos 399)) [
+      | inl before ↦ Any-here (BoxHolds r) (0, sides (pos 0) (pos 0) (pos 399) (pos 200)) ((0, sides (pos 400) (pos 0) (pos 1000) (pos 200)) ∷ []) (refl, record { left = omega (arith, ints); right = before; low = omega (arith, ints); high = omega (arith, ints) })
+      | inr after ↦ Any-there (BoxHolds r) (0, sides (pos 0) (pos 0) (pos 399) (pos 200)) ((0, sides (pos 400) (pos 0) (pos 1000) (pos 200)) ∷ []) (Any-here (BoxHolds r) (0, sides (pos 400) (pos 0) (pos 1000) (pos 200)) [] (refl, record { left = omega (arith, ints); right = omega (arith, ints); low = omega (arith, ints); high = omega (arith, ints) }))
+    ]
