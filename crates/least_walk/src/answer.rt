@@ -1,5 +1,5 @@
 //! The answer of a search.
-ghost use Rattle.std.specs.Prelude.{◌≡◌, ℕ, ◌<◌, ◌^◌, length, OnOk, IfOk, IfSome, IfNone, All, Contains};
+ghost use Rattle.std.specs.Prelude.{◌<◌, length, IfOk, IfSome, IfNone, Contains};
 ghost use Rattle.least_walk.specs.Walks.{IsGraph, AreStops, IsLeast, HasNone};
 ghost use Rattle.least_walk.specs.Search.{IsSound, IsBestOrNone, IsCheaper, AreLabels, LeadsTo};
 

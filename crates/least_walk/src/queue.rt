@@ -1,5 +1,5 @@
 //! A bag of numbers with keys, from which a least key comes first.
-ghost use Rattle.std.specs.Prelude.{◌≡◌, ℕ, ◌≤◌, [], All, IfSome, IfNone, OnOk, OnErr};
+ghost use Rattle.std.specs.Prelude.{◌≡◌, ◌≤◌, [], All, IfSome, IfNone, OnOk, OnErr};
 ghost use Rattle.least_walk.specs.Queue.{IsWithOneMore};
 
 use rt_base::Memory;

@@ -1,5 +1,5 @@
 //! Labels, and the queue of those whose vertex may not be settled.
-ghost use Rattle.std.specs.Prelude.{◌≡◌, ℕ, ◌<◌, ◌^◌, length, OnOk, IfOk, [], All};
+ghost use Rattle.std.specs.Prelude.{◌≡◌, ◌<◌, OnOk, IfOk, []};
 ghost use Rattle.std.specs.Bool.{OnFalse, OnTrue};
 ghost use Rattle.least_walk.specs.Walks.{links_from, IsGraph, AreStops};
 ghost use Rattle.least_walk.specs.Search.{Adds, CanRelax, Relaxed, IsSound, dist_at, work_left};

@@ -1,5 +1,5 @@
 //! Least walks in small graphs, with costs that were counted by hand.
-ghost use Rattle.std.specs.Prelude.{◌≡◌, ◌<◌, ◌↔◌, IsTrue, All, length};
+ghost use Rattle.std.specs.Prelude.{◌<◌, ◌↔◌, IsTrue, All};
 ghost use Rattle.least_walk.specs.Walks.{IsGraph, AreStops};
 
 use crate::{Link, Stop, Walk, least_walk};
@@ -37,16 +37,14 @@ fn graph_of(alloc: Global, links: &[(usize, usize, u64)]) -> Result<Vec<Seq<Link
     let mut graph = Vec::new(alloc);
     for vertex in 0..5 {
         let mut row = Seq::new(alloc);
-        let mut tag = 0;
-        for (from, to, cost) in links {
+        for (tag, (from, to, cost)) in links.iter().enumerate() {
             if *from == vertex {
                 row.push(Link {
                     to: *to,
                     cost: *cost,
-                    tag,
+                    tag: tag as u64,
                 })?;
             }
-            tag = tag.wrapping_add(1);
         }
         graph.push(row)?;
     }
@@ -56,14 +54,12 @@ fn graph_of(alloc: Global, links: &[(usize, usize, u64)]) -> Result<Vec<Seq<Link
 /// Stops (vertex, cost), each tagged by its place in the list.
 fn stops_of(alloc: Global, pairs: &[(usize, u64)]) -> Result<Vec<Stop>, Fail> {
     let mut stops = Vec::new(alloc);
-    let mut tag = 0;
-    for (vertex, cost) in pairs {
+    for (tag, (vertex, cost)) in pairs.iter().enumerate() {
         stops.push(Stop {
             vertex: *vertex,
             cost: *cost,
-            tag,
+            tag: tag as u64,
         })?;
-        tag = tag.wrapping_add(1);
     }
     Ok(stops)
 }
