@@ -9,6 +9,8 @@ mod name;
 mod seq;
 mod spacing;
 mod tech;
+#[cfg(test)]
+mod tests;
 mod token;
 mod walk;
 
