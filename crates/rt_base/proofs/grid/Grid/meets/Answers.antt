@@ -1,8 +1,7 @@
-use Rattle.std.proofs.Common.{◌≡◌, ◌<◌, ◌≤◌, ◌≤ℤ◌, IsTrue, true, rules, arith, ap}
+use Rattle.std.proofs.Common.{◌<◌, IsTrue, true, rules, arith}
 use Rattle.std.proofs.lemmas.Int.{ints}
-use Rattle.rt_base.specs.declared.geometry.Point.{Point}
-use Rattle.rt_base.specs.Tiles.{side_of, column_of, row_of}
-use Rattle.rt_base.proofs.Tiling.{Spans, Meets-Spans, Spans-Meets}
+use Rattle.rt_base.specs.Tiles.{side_of}
+use Rattle.rt_base.proofs.Tiling.{Meets-Spans, Spans-Meets}
 use Rattle.rt_base.proofs.grid.Grid.meets.Goals as goal
 
 pub returns-then-not-is_between : goal.returns-then-not-is_between
