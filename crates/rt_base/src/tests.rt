@@ -3,6 +3,7 @@ use crate::geometry::{Point, Rect};
 use crate::grid::Grid;
 use crate::memory::Memory;
 use crate::name::Name;
+use crate::scan::{ScanError, tokens};
 use crate::seq::Seq;
 use crate::tech::{Layer, LayerNo, Owner, Shape, SpacingTable, Tech};
 use crate::{conflict, gap};
@@ -282,5 +283,82 @@ fn lists_and_names(rt: HostRuntime) -> Result<(), Fail> {
     assert_eq!(rt; shown.as_str(), "net[3]");
     let text = format!(in alloc; "{Memory}")?;
     assert_eq!(rt; text.as_str(), "out of memory");
+    Ok(())
+}
+
+#[test]
+fn scans(rt: HostRuntime) -> Result<(), Fail> {
+    let alloc = rt.alloc();
+    let rows: [(&str, &[u8], &[(u32, &[u8])]); 9] = [
+        ("nothing", b"", &[]),
+        ("white space alone", b" \t\r\n\n", &[]),
+        (
+            "words and lines",
+            b"VIA v1\n ; END",
+            &[(1, b"VIA"), (1, b"v1"), (2, b";"), (2, b"END")],
+        ),
+        ("a comment", b"a # b \" c\nd", &[(1, b"a"), (2, b"d")]),
+        (
+            "no comment inside a token",
+            b"a#b #c#\n#d\ne#",
+            &[(1, b"a#b"), (3, b"e#")],
+        ),
+        (
+            "no quote inside a token",
+            b"a\"b c\"d",
+            &[(1, b"a\"b"), (1, b"c\"d")],
+        ),
+        (
+            "a quote over lines",
+            b"\"a\n#b\n\" c",
+            &[(1, b"\"a\n#b\n\""), (3, b"c")],
+        ),
+        (
+            "behind a quote",
+            b"\"a\"b \"\"\"c\"#d",
+            &[(1, b"\"a\""), (1, b"b"), (1, b"\"\""), (1, b"\"c\"")],
+        ),
+        (
+            "CR LF, and a byte above 127",
+            b"a\r\nb\xc3\r\n",
+            &[(1, b"a"), (2, b"b\xc3")],
+        ),
+    ];
+    for (what, text, want) in rows {
+        let found = tokens(alloc, text)?;
+        assert_eq!(rt; found.len(), want.len(), "{what}");
+        for (token, (line, bytes)) in found.iter().zip(want) {
+            assert_eq!(rt; token.line, *line, "{what}");
+            let place = token.first as usize..token.past as usize;
+            assert_eq!(rt; text.get(place), Some(*bytes), "{what}");
+        }
+    }
+    Ok(())
+}
+
+#[test]
+fn scan_faults(rt: HostRuntime) -> Result<(), Fail> {
+    let unclosed = |line| ScanError::UnclosedQuote { line };
+    let not_text = |line| ScanError::NotText { line };
+    let rows = [
+        ("an open quote", b"a\n \"b\nc\n".as_slice(), unclosed(2)),
+        (
+            "an open quote behind a closed one",
+            b"\"\n\"\"",
+            unclosed(2),
+        ),
+        ("byte 127", b"a\nb\x7f", not_text(2)),
+        ("byte 0 in a comment", b"a\n# \0\nb", not_text(2)),
+        ("byte 31 in a quote", b"\"\n\n\x1f\"", not_text(3)),
+        ("a byte in an open quote", b"a\n\"\n\x7f", unclosed(2)),
+        ("a byte before an open quote", b"a\n\x01\n\"", not_text(2)),
+        ("a quote behind a comment's", b"# \"\n\x02 \"", not_text(2)),
+    ];
+    for (what, text, want) in rows {
+        assert_eq!(rt; tokens(rt.alloc(), text).err(), Some(want), "{what}");
+    }
+    let shown = format!(in rt.alloc(); "{}", not_text(7))?;
+    assert_eq!(rt; shown.as_str(), "line 7: a byte isn't text");
+    assert_eq!(rt; ScanError::from(Memory), ScanError::Memory);
     Ok(())
 }
