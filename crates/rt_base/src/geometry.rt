@@ -36,3 +36,43 @@ impl Model for Rect {
 
     ghost inverse = { λ s. record { xl = s.xl; yl = s.yl; xh = s.xh; yh = s.yh } };
 }
+
+impl Rect {
+    ghost use Rattle.std.specs.Prelude.{◌≡◌, ◌≤ℤ◌, IsTrue, ◌↔◌};
+    ghost use Rattle.rt_base.specs.Geometry.{Holds, low_of, high_of};
+
+    /// The lower left corner.
+    pub fn low(&self) -> Point
+        ensures { result ≡ low_of self.now }
+    {
+        Point {
+            x: self.xl,
+            y: self.yl,
+        }
+    }
+
+    /// The upper right corner.
+    pub fn high(&self) -> Point
+        ensures corner { result ≡ high_of self.now }
+        ensures wide { self.now.xl ≤ℤ self.now.xh }
+        ensures tall { self.now.yl ≤ℤ self.now.yh }
+    {
+        Point {
+            x: self.xh,
+            y: self.yh,
+        }
+    }
+
+    /// Whether the closed rectangle holds the point. Takes no memory.
+    pub fn holds(&self, p: Point) -> bool
+        ensures { IsTrue result ↔ Holds self.now p }
+    {
+        if p.x < self.xl || self.xh < p.x {
+            return false;
+        }
+        if p.y < self.yl || self.yh < p.y {
+            return false;
+        }
+        true
+    }
+}

@@ -2,13 +2,18 @@
 #![tactic(auto)]
 
 mod distance;
+mod find;
 mod geometry;
 mod grid;
 mod memory;
 mod name;
+mod scan;
 mod seq;
 mod spacing;
+mod split;
 mod tech;
+#[cfg(test)]
+mod tests;
 mod token;
 mod walk;
 
@@ -17,6 +22,7 @@ pub use geometry::{Point, Rect, Span};
 pub use grid::Grid;
 pub use memory::Memory;
 pub use name::Name;
+pub use scan::{ScanError, tokens};
 pub use seq::Seq;
 pub use spacing::conflict;
 pub use tech::{Layer, LayerNo, Owner, Shape, SpacingTable, Tech, Via};

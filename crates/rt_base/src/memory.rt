@@ -1,4 +1,6 @@
 //! Want of memory.
+ghost use Rattle.std.specs.Prelude.{◌≡◌};
+
 use std::alloc::{AllocError, AllocFailed};
 use thiserror::Error;
 
@@ -8,12 +10,16 @@ use thiserror::Error;
 pub struct Memory;
 
 impl From<AllocError> for Memory {
+    ghost from_gives = { λ _ e. e ≡ record {} };
+
     fn from(_error: AllocError) -> Memory {
         Memory
     }
 }
 
 impl<T: Drop> From<AllocFailed<T>> for Memory {
+    ghost from_gives = { λ _ e. e ≡ record {} };
+
     fn from(_error: AllocFailed<T>) -> Memory {
         Memory
     }

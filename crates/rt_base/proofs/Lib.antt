@@ -1,0 +1,3 @@
+pub mod Parting
+pub mod Scanning
+pub mod Tiling
