@@ -1,5 +1,5 @@
-use Rattle.std.proofs.Common.{◌≡◌, ℕ, ◌^◌, Result, Ok, Err, inl, inr, zero, suc, ◌+◌, ◌-◌, ◌*◌, ◌<◌, ◌≤◌, Bool, true, false, List, [], ◌∷◌, ◌++◌, length, get_or, take, min, refl, sym, ap, ◌∙◌, arith, ltb}
-use Rattle.std.specs.Prelude.{nat_le, ◌&&◌, ℤ}
+use Rattle.std.proofs.Common.{◌≡◌, ℕ, ◌^◌, Result, Err, inl, inr, zero, suc, ◌+◌, ◌-◌, ◌*◌, ◌<◌, ◌≤◌, Bool, true, false, List, [], ◌∷◌, ◌++◌, length, get_or, take, min, refl, sym, ap, ◌∙◌, arith, ltb}
+use Rattle.std.specs.Prelude.{nat_le, ◌&&◌}
 use Rattle.std.specs.List.{list_all}
 use Rattle.std.specs.Str.Parse.{digits_value, digits_value_after, AllDigits}
 use Rattle.std.specs.Char.{digit_value}
@@ -9,7 +9,7 @@ use Rattle.std.proofs.lemmas.Bool.{and_parts, leb-true, cases_lt, lt-ltb, le-ltb
 use Rattle.std.proofs.Math.Nat.{mul-le-mul_left, pow-le-pow_right, one-le-pow, pow-suc}
 use Rattle.rt_words.specs.declared.number.NumberFault.{NumberFault}
 use Rattle.rt_words.specs.declared.number.NumberFault.TheVariants.{TooLarge}
-use Rattle.rt_words.specs.Number.{quotient, amount, with_sign}
+use Rattle.rt_words.specs.Number.{quotient, with_sign}
 use Rattle.rt_words.specs.Reading.{is_digit, are_digits, parts_of}
 
 pub in_range : (bs : List ℕ) (i : ℕ) → list_all is_digit bs ≡ true → i < length bs → (48 ≤ get_or bs i 0) × (get_or bs i 0 ≤ 57)

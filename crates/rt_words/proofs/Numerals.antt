@@ -1,10 +1,10 @@
-use Rattle.std.proofs.Common.{◌≡◌, ◌≢◌, ℕ, ◌^◌, ◌%◌, ◌/◌, ◌*◌, Result, Ok, Err, inl, inr, zero, suc, ◌+◌, ◌-◌, ◌<◌, ◌≤◌, Bool, true, false, not, List, [], ◌∷◌, ◌++◌, length, get_or, take, drop, refl, sym, ap, ◌∙◌, arith, ltb, Option, Some, None, drop-cons, append_assoc, append-nil, length-append}
+use Rattle.std.proofs.Common.{◌≡◌, ◌≢◌, ℕ, ◌^◌, ◌%◌, ◌/◌, ◌*◌, Result, Ok, Err, inl, inr, suc, ◌+◌, ◌<◌, ◌≤◌, Bool, true, false, not, List, [], ◌∷◌, ◌++◌, length, get_or, take, drop, refl, sym, ap, ◌∙◌, arith, ltb, Option, Some, None, drop-cons, append_assoc, append-nil}
 use Rattle.std.specs.Prelude.{nat_le, ◌&&◌, ℤ, position, ◌==◌, if◌then◌else◌}
 use Rattle.std.specs.List.{list_all, position_from}
 use Rattle.std.specs.Int.{IsInRange}
 use Rattle.std.specs.Str.Parse.{digits_value, AllDigits, IsNumeral}
-use Rattle.std.proofs.lemmas.Str.Parse.{digit_from_value, IsDigitsTest}
-use Rattle.std.proofs.lemmas.Bool.{and_parts, and_from, leb-true, le-leb, cases_Bool, ne_eqb, eqb-true, eqb-false, both_ways}
+use Rattle.std.proofs.lemmas.Str.Parse.{digit_from_value}
+use Rattle.std.proofs.lemmas.Bool.{and_parts, and_from, leb-true, le-leb, cases_Bool, ne_eqb, eqb-true}
 use Rattle.std.proofs.lemmas.Iterator.Adapters.{position_from-zero}
 use Rattle.std.proofs.lemmas.List.Quantifiers.{position-Some}
 use Rattle.std.proofs.lemmas.List.Folds.{list_all-append}
@@ -12,7 +12,7 @@ use Rattle.std.proofs.lemmas.List.{take-append-drop}
 use Rattle.std.proofs.Math.Seq.{take-append_seam, drop-append-add}
 use Rattle.rt_words.specs.declared.number.NumberFault.{NumberFault}
 use Rattle.rt_words.specs.declared.number.NumberFault.TheVariants.{NotNumber, TooManyDecimals, TooLarge, NotWhole}
-use Rattle.rt_words.specs.Number.{Sign, Unsigned, Plus, Minus, Numeral, sign_text, point_text, decimals, Writes, WritesInteger, is_minus, quotient, signed, with_sign, amount, amount_of}
+use Rattle.rt_words.specs.Number.{Sign, Unsigned, Plus, Minus, Numeral, sign_text, point_text, decimals, Writes, WritesInteger, is_minus, quotient, signed, with_sign, amount_of}
 use Rattle.rt_words.specs.Reading.{is_digit, is_point, begins_with_minus, without_sign, whole_part, fraction_part, are_digits, parts_of, decimal_of, integer_of}
 use Rattle.rt_words.proofs.Digits.{all_digits, are_parts}
 

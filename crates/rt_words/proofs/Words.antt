@@ -1,13 +1,12 @@
-use Rattle.std.proofs.Common.{◌≡◌, ◌≢◌, ℕ, ◌+◌, ◌<◌, ◌≤◌, zero, suc, Bool, true, false, ◌&&◌, not, List, [], ◌∷◌, length, get_or, map, take, drop, ◌-◌, refl, sym, ap, subst, ◌∙◌, arith, Option, Some, None, inl, inr, ◌⊎◌, rules, cond}
-use Rattle.std.specs.Prelude.{bytes_eq, AllPairs, All, Contains, position, slice_get, ◌==◌}
-use Rattle.std.specs.List.{list_any, position_from, position_or_len}
+use Rattle.std.proofs.Common.{◌≡◌, ◌≢◌, ℕ, ◌+◌, ◌<◌, ◌≤◌, zero, suc, Bool, true, false, ◌&&◌, not, List, [], ◌∷◌, length, get_or, take, drop, ◌-◌, refl, sym, ap, subst, ◌∙◌, arith, Option, Some, None, inl, inr, cond}
+use Rattle.std.specs.Prelude.{bytes_eq, All, Contains, slice_get, ◌==◌}
+use Rattle.std.specs.List.{list_any, position_from}
 use Rattle.std.proofs.lemmas.Slice.Eq.{bytes_eq-Decides}
-use Rattle.std.proofs.lemmas.Bool.{and_parts, and_from, not-true, cases_Bool, both_ways, eq-eqb, ne_eqb}
+use Rattle.std.proofs.lemmas.Bool.{and_parts, not-true, cases_Bool, both_ways, eq-eqb, ne_eqb}
 use Rattle.std.proofs.lemmas.Bool.Decides.{not_from_Decides}
 use Rattle.std.proofs.lemmas.List.Kept.{AllPairs-cons}
 use Rattle.std.proofs.lemmas.List.Folds.{list_any_none}
 use Rattle.std.proofs.lemmas.List.{take_all}
-use Rattle.std.proofs.lemmas.Iterator.Adapters.{position_from-zero}
 use Rattle.std.proofs.lemmas.Option.{slice_get_within, get_or_from_slice_get, slice_get-get_or}
 use Rattle.rt_words.specs.Table.{word_of, words_of, AreDistinct, are_distinct, is_row, Compares}
 

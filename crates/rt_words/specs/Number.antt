@@ -1,6 +1,6 @@
 -- Numbers of LEF, DEF and guide texts (LEF/DEF 5.8 Language Reference): an optional sign, digits, and perhaps
 -- a point and further digits.
-use Rattle.std.specs.Prelude.{ℕ, ◌≡◌, ◌*◌, ◌^◌, ◌%◌, ◌/◌, Bool, true, false, not, nat_lt, ◌==◌, List, [], ◌∷◌, ◌++◌, length, Option, Some, None, if◌then◌else◌, Result, Ok, Err, ℤ, pos, neg_ℤ, codes}
+use Rattle.std.specs.Prelude.{ℕ, ◌≡◌, ◌*◌, ◌^◌, ◌%◌, ◌/◌, Bool, true, false, not, nat_lt, ◌==◌, List, [], ◌++◌, length, Option, Some, None, if◌then◌else◌, Result, Ok, Err, ℤ, pos, neg_ℤ, codes}
 use Rattle.std.specs.Str.Parse.{IsNumeral, digits_value}
 use Rattle.rt_words.specs.declared.number.NumberFault.{NumberFault}
 use Rattle.rt_words.specs.declared.number.NumberFault.TheVariants.{TooManyDecimals, TooLarge, NotWhole}

@@ -1,5 +1,5 @@
 -- The same, computed from a word.
-use Rattle.std.specs.Prelude.{ℕ, ◌+◌, ◌^◌, Bool, true, false, ◌&&◌, ◌||◌, not, nat_le, nat_lt, ◌==◌, List, [], ◌∷◌, length, take, drop, position, Option, Some, None, if◌then◌else◌, Result, Err, ℤ}
+use Rattle.std.specs.Prelude.{ℕ, ◌+◌, ◌^◌, Bool, false, ◌&&◌, ◌||◌, not, nat_le, nat_lt, ◌==◌, List, [], ◌∷◌, length, take, drop, position, Option, Some, None, if◌then◌else◌, Result, Err, ℤ}
 use Rattle.std.specs.Str.Parse.{digits_value}
 use Rattle.std.specs.List.{list_all}
 use Rattle.rt_words.specs.declared.number.NumberFault.{NumberFault}

@@ -188,21 +188,21 @@ enum Statement {
 }
 
 fn statement_of(word: &[u8]) -> Statement
-    ensures { result ≡ (if bytes_eq word.now (codes "LAYER") then Layer
-        else if bytes_eq word.now (codes "VIA") then Via
-        else if bytes_eq word.now (codes "MACRO") then Macro
-        else if bytes_eq word.now (codes "UNITS") then Units
+    ensures { result ≡ (if bytes_eq word.now (codes "LAYER") then Statement.Layer
+        else if bytes_eq word.now (codes "VIA") then Statement.Via
+        else if bytes_eq word.now (codes "MACRO") then Statement.Macro
+        else if bytes_eq word.now (codes "UNITS") then Statement.Units
         else if bytes_eq word.now (codes "VERSION") || bytes_eq word.now (codes "BUSBITCHARS")
         || bytes_eq word.now (codes "DIVIDERCHAR") || bytes_eq word.now (codes "NAMESCASESENSITIVE")
         || bytes_eq word.now (codes "MANUFACTURINGGRID") || bytes_eq word.now (codes "USEMINSPACING")
         || bytes_eq word.now (codes "CLEARANCEMEASURE") || bytes_eq word.now (codes "MAXVIASTACK")
-        || bytes_eq word.now (codes "FIXEDMASK") then Unused
+        || bytes_eq word.now (codes "FIXEDMASK") then Statement.Unused
         else if bytes_eq word.now (codes "PROPERTYDEFINITIONS") || bytes_eq word.now (codes "SPACING")
-        || bytes_eq word.now (codes "BEGINEXT") then Section
-        else if bytes_eq word.now (codes "SITE") then Site
-        else if bytes_eq word.now (codes "VIARULE") || bytes_eq word.now (codes "NONDEFAULTRULE") then Rule
-        else if bytes_eq word.now (codes "END") then End
-        else Unknown) }
+        || bytes_eq word.now (codes "BEGINEXT") then Statement.Section
+        else if bytes_eq word.now (codes "SITE") then Statement.Site
+        else if bytes_eq word.now (codes "VIARULE") || bytes_eq word.now (codes "NONDEFAULTRULE") then Statement.Rule
+        else if bytes_eq word.now (codes "END") then Statement.End
+        else Statement.Unknown) }
 {
     statement!(TABLE, word,
         UNITS => Statement::Units,

@@ -1,4 +1,4 @@
-use Rattle.std.proofs.Common.{◌≡◌, ◌∙◌, sym, ℕ}
+use Rattle.std.proofs.Common.{◌≡◌, ◌∙◌, sym}
 use Rattle.rt_words.specs.Reading.{decimal_of}
 use Rattle.rt_words.proofs.Numerals.{decimal_is, decimal_number, decimal_no_number}
 use Rattle.rt_words.proofs.number.decimal.Goals as goal

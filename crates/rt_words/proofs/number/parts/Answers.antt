@@ -1,4 +1,4 @@
-use Rattle.std.proofs.Common.{◌≡◌, ◌≤◌, length, true, arith, ap, sym, ◌∙◌, Ok, Err, ℤ, to_z, of_z, w64, Result}
+use Rattle.std.proofs.Common.{◌≡◌, arith, ap, sym, ◌∙◌, Ok, Err, ℤ, to_z, of_z, w64, Result}
 use Rattle.std.proofs.lemmas.Result.{err_from_is_err_and}
 use Rattle.std.proofs.lemmas.Int.{ints}
 use Rattle.rt_words.specs.declared.number.NumberFault.{NumberFault}

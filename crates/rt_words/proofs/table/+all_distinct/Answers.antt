@@ -1,4 +1,4 @@
-use Rattle.std.proofs.Common.{◌≡◌, ◌∙◌, sym}
+use Rattle.std.proofs.Common.{◌∙◌, sym}
 use Rattle.rt_words.proofs.Words.{distinct_first}
 use Rattle.rt_words.proofs.table.+all_distinct.Goals as goal
 

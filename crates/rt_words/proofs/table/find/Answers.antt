@@ -2,7 +2,7 @@ use Rattle.std.proofs.Common.{◌≡◌, ◌∙◌, sym, ℕ, List, Option, Some
 use Rattle.std.specs.Prelude.{bytes_eq, position}
 use Rattle.std.specs.List.{position_from}
 use Rattle.std.proofs.lemmas.Iterator.Adapters.{position_from-zero}
-use Rattle.rt_words.specs.Table.{words_of, word_of, Compares}
+use Rattle.rt_words.specs.Table.{words_of, word_of}
 use Rattle.rt_words.proofs.Words.{found_word, word_found, none_found, contained, compares, place_of_word}
 use Rattle.rt_words.proofs.table.find.Goals as goal
 
