@@ -71,9 +71,9 @@ find-set (f ∷ fs) name q zero y within here before is =
 find-set (f ∷ fs) name q (suc i) y within here before is =
     let other : bytes_eq name (string_bytes f.0) ≡ false = before 0 (omega arith) in
     let apart : is_named q f ≡ true → bytes_eq q name ≡ true → ⊥ = λ t u.
-        true≢false (sym ((bytes_eq-Decides name (string_bytes f.0)).1 (sym ((bytes_eq-Decides q name).0 u) ∙ (bytes_eq-Decides q (string_bytes f.0)).0 t)) ∙ other) in
+    true≢false (sym ((bytes_eq-Decides name (string_bytes f.0)).1 (sym ((bytes_eq-Decides q name).0 u) ∙ (bytes_eq-Decides q (string_bytes f.0)).0 t)) ∙ other) in
     kept (is_named q f) (bytes_eq q name) f (bytes_in y) (find (is_named q) fs) (find (is_named q) (set fs i y)) apart
-        (find-set fs name q i y (omega (arith, within)) here (λ k below. before (suc k) (omega (arith, below))) is)
+    (find-set fs name q i y (omega (arith, within)) here (λ k below. before (suc k) (omega (arith, below))) is)
 
 -- to write at the first file of a name is to insert there
 pub files_of-set : (files : List File) (name : List ℕ) (i : ℕ) (file : File) (bytes : Vec ℕ) → Some i ≡ position (is_named name) files → file ≡ get_or files i file → files_of (set files i (file.0, bytes)) ≡ finite.insert (files_of files) name bytes.items
@@ -83,11 +83,11 @@ files_of-set files name i file bytes at read =
     let found = position-Some (is_named name) files i file (sym at) in
     let is : string_bytes file.0 ≡ name = ap (λ (f : File). string_bytes f.0) read ∙ sym ((bytes_eq-Decides name (string_bytes (get_or files i file).0)).0 found.1) in
     finite.same_map nat_list_cmp_total exact_bytes _ _ (λ q.
-        get-files_of (set files i y) q
-        ∙ find-set files name q i y here.0 here.1 here.2 is
-        ∙ ap (cond (bytes_eq q name) (Some (bytes_in y))) (sym (get-files_of files q))
-        ∙ ap (λ b. cond b (Some (bytes_in y)) (finite.get (files_of files) q)) (sym (is_eq-slice_cmp q name))
-        ∙ sym (finite.get-insert nat_list_cmp_total (files_of files) name bytes.items q))
+    get-files_of (set files i y) q
+    ∙ find-set files name q i y here.0 here.1 here.2 is
+    ∙ ap (cond (bytes_eq q name) (Some (bytes_in y))) (sym (get-files_of files q))
+    ∙ ap (λ b. cond b (Some (bytes_in y)) (finite.get (files_of files) q)) (sym (is_eq-slice_cmp q name))
+    ∙ sym (finite.get-insert nat_list_cmp_total (files_of files) name bytes.items q))
 
 not_found : (p : File → Bool) (files : List File) → position p files ≡ None → length files ≤ position_or_len p files
 not_found p files none = grind (arith, nat_tests)
@@ -100,5 +100,5 @@ pub files_of-push : (files : List File) (name : List ℕ) (y : File) → None �
 files_of-push files name y at is =
     ap finite.from_entries (map-append entry files (y ∷ []))
     ∙ finite.from_entries_push nat_list_cmp_total exact_bytes (map entry files) (string_bytes y.0) (bytes_in y)
-        (find-entries files (string_bytes y.0) ∙ ap (option_map bytes_in) (ap (λ k. find (is_named k) files) is ∙ absent (is_named name) files at))
+    (find-entries files (string_bytes y.0) ∙ ap (option_map bytes_in) (ap (λ k. find (is_named k) files) is ∙ absent (is_named name) files at))
     ∙ ap (λ k. finite.insert (files_of files) k y.1.items) is

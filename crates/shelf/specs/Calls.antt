@@ -1,5 +1,5 @@
 -- Calls that come one after another, some of which fail.
-use Rattle.std.specs.Prelude.{◌==◌, ℕ, Bool, List}
+use Rattle.std.specs.Prelude.{◌==◌, ℕ, ◌/◌, Bool, List, length, take, if◌then◌else◌}
 use Rattle.std.specs.List.{list_any}
 use Rattle.shelf.specs.Faults.{counted}
 
@@ -24,3 +24,11 @@ called s = record s { came = counted s.came }
 -- after one more fault
 abbrev pub faulted : CallState → CallState
 faulted s = record s { faults = counted s.faults }
+
+-- after a call that failed, or not
+abbrev pub after_call : Bool → CallState → CallState
+after_call fails s = if fails then faulted (called s) else called s
+
+-- what the next call writes of the bytes: all of them, or the first half where it fails
+abbrev pub written : CallState → List ℕ → List ℕ
+written s bytes = if is_failing s then take (length bytes / 2) bytes else bytes

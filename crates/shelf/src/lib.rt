@@ -17,3 +17,6 @@ pub use plain_shelf::PlainShelf;
 pub use plain_sink::PlainSink;
 pub use shelf::Shelf;
 pub use sink::Sink;
+
+#[cfg(test)]
+mod tests;

@@ -1,9 +1,10 @@
 //! A shelf in memory, for tests.
-ghost use Rattle.std.specs.Prelude.{◌≡◌, [], List, Some, IfOk, OnOk, OnErr, refl, option_copied, find, position, string_bytes};
+ghost use Rattle.std.specs.Prelude.{◌≡◌, [], List, Some, IfOk, OnOk, OnErr, IsErrOf, IsTrue, IsFalse, ◌↔◌, ◌+◌, ◌≤◌, vec_len, refl, option_copied, find, position, string_bytes};
 ghost use Rattle.std.specs.Str.{bytes_eq};
 ghost use Rattle.std.specs.FinMap as map;
-ghost use Rattle.shelf.specs.Calls.{uncalled};
-ghost use Rattle.shelf.specs.MemShelf.{files_of};
+ghost use Rattle.shelf.specs.Calls.{uncalled, called, is_failing};
+ghost use Rattle.shelf.specs.MemShelf.{files_of, fails_take, after_take, after_put};
+ghost use Rattle.shelf.specs.Shelf.{IfLong, HoldsAtLeast};
 
 use crate::calls::{Calls, first_half};
 use crate::fault::{PutFault, TakeFault};
@@ -88,10 +89,11 @@ impl MemShelf {
         ensures files { result.files ≡ files_of files.items }
         ensures calls { result.calls ≡ uncalled fails.items }
     {
+        let calls = Calls::new(fails);
         MemShelf {
             alloc,
             files,
-            calls: Calls::new(fails),
+            calls,
         }
     }
 
@@ -112,7 +114,14 @@ impl Shelf for MemShelf {
 
     ghost sure_tells = { λ _ _. refl };
 
-    fn take(&mut self, alloc: Global, name: &str, limit: u64) -> Result<Vec<u8>, TakeFault> {
+    fn take(&mut self, alloc: Global, name: &str, limit: u64) -> Result<Vec<u8>, TakeFault>
+        ensures bytes { IfOk result (λ bytes. map.get self.old.files name.now ≡ Some bytes.items) }
+        ensures within { IfOk result (λ bytes. vec_len bytes ≤ limit) }
+        ensures failed { IsErrOf result TakeFault.Failed ↔ IsTrue (fails_take self.old name.now) }
+        ensures long { IfLong result (λ read. (read ≡ limit + 1) × HoldsAtLeast (Some self.old.files) name.now read) }
+        ensures after { self.new ≡ after_take self.old name.now }
+        ensures count { self.old.calls.faults ≤ self.new.calls.faults }
+    {
         if self.calls.is_next_failing() {
             self.calls.count_fault();
             return Err(TakeFault::Failed);
@@ -127,7 +136,12 @@ impl Shelf for MemShelf {
         Ok(copy_of(alloc, bytes)?)
     }
 
-    fn put(&mut self, name: &str, bytes: &[u8]) -> Result<(), PutFault> {
+    fn put(&mut self, name: &str, bytes: &[u8]) -> Result<(), PutFault>
+        ensures ok { OnOk result (IsFalse (is_failing self.old.calls) × (self.new ≡ after_put self.old name.now bytes.now)) }
+        ensures failed { IsErrOf result PutFault.Failed → IsTrue (is_failing self.old.calls) × (self.new ≡ after_put self.old name.now bytes.now) }
+        ensures memory { IsErrOf result PutFault.Memory → self.new ≡ record self.old { calls = called self.old.calls } }
+        ensures count { self.old.calls.faults ≤ self.new.calls.faults }
+    {
         if self.calls.is_next_failing() {
             store(&mut self.files, self.alloc, name, first_half(bytes))?;
             self.calls.count_fault();

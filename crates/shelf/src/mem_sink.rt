@@ -1,6 +1,7 @@
 //! A sink in memory, for tests.
-ghost use Rattle.std.specs.Prelude.{◌≡◌, ◌++◌, [], Some, OnOk, OnErr};
-ghost use Rattle.shelf.specs.Calls.{uncalled};
+ghost use Rattle.std.specs.Prelude.{◌≡◌, ◌++◌, ◌≤◌, [], Some, IsErrOf, IsTrue, IsFalse, OnOk, OnErr};
+ghost use Rattle.shelf.specs.Calls.{uncalled, called, is_failing};
+ghost use Rattle.shelf.specs.MemSink.{after_say};
 
 use crate::calls::{Calls, first_half};
 use crate::fault::SayFault;
@@ -60,7 +61,12 @@ impl Sink for MemSink {
 
     ghost sure = { λ s. s.calls.fails ≡ [] };
 
-    fn say(&mut self, bytes: &[u8]) -> Result<(), SayFault> {
+    fn say(&mut self, bytes: &[u8]) -> Result<(), SayFault>
+        ensures ok { OnOk result (IsFalse (is_failing self.old.calls) × (self.new ≡ after_say self.old bytes.now)) }
+        ensures failed { IsErrOf result SayFault.Failed → IsTrue (is_failing self.old.calls) × (self.new ≡ after_say self.old bytes.now) }
+        ensures memory { IsErrOf result SayFault.Memory → self.new ≡ record self.old { calls = called self.old.calls } }
+        ensures count { self.old.calls.faults ≤ self.new.calls.faults }
+    {
         if self.calls.is_next_failing() {
             add(&mut self.text, first_half(bytes))?;
             self.calls.count_fault();

@@ -1,5 +1,7 @@
 //! The shelf of the file system.
-ghost use Rattle.std.specs.Prelude.{◌≡◌, ◌+◌, None, IfOk, IfSome, take, min, ◌-◌, ◌^◌};
+ghost use Rattle.std.specs.Prelude.{◌≡◌, ◌+◌, ◌-◌, ◌^◌, ◌<◌, ◌≤◌, min, None, take, vec_len, IfOk, IfSome, IsErrOf, OnOk, OnErr};
+ghost use Rattle.shelf.specs.Faults.{counted};
+ghost use Rattle.shelf.specs.Shelf.{IfLong};
 
 use crate::fault::{PutFault, TakeFault};
 use crate::shelf::Shelf;
@@ -43,10 +45,19 @@ impl<R: Files> PlainShelf<R> {
         self.faults
     }
 
+    fn count_fault(&mut self)
+        ensures counted { fault_count self.new ≡ counted (fault_count self.old) }
+        ensures grows { fault_count self.old ≤ fault_count self.new }
+    {
+        self.faults = self.faults.saturating_add(1);
+    }
+
+    /// The first `limit` bytes of a file and one more, or all where it has fewer.
     fn read(&self, alloc: Global, name: &str, limit: u64) -> io::Result<Vec<u8>> {
         read_past(alloc, fs::open(&self.rt, name)?, limit)
     }
 
+    /// Writes a file anew.
     fn write(&self, name: &str, bytes: &[u8]) -> io::Result<()> {
         let mut file = fs::create(&self.rt, name)?;
         file.write_all(bytes)?;
@@ -55,6 +66,8 @@ impl<R: Files> PlainShelf<R> {
 }
 
 impl<R: Files> Shelf for PlainShelf<R> {
+    ghost use Rattle.shelf.specs.PlainShelf.{fault_count};
+
     ghost told = { λ _. None };
 
     ghost faults = { λ s. s.faults };
@@ -63,7 +76,13 @@ impl<R: Files> Shelf for PlainShelf<R> {
 
     ghost sure_tells = { λ _ h. absurd h };
 
-    fn take(&mut self, alloc: Global, name: &str, limit: u64) -> Result<Vec<u8>, TakeFault> {
+    fn take(&mut self, alloc: Global, name: &str, limit: u64) -> Result<Vec<u8>, TakeFault>
+        ensures within { IfOk result (λ bytes. vec_len bytes ≤ limit) }
+        ensures above { IfLong result (λ read. limit < read) }
+        ensures failed { IsErrOf result TakeFault.Failed → fault_count self.new ≡ counted (fault_count self.old) }
+        ensures no_fault { ¬ IsErrOf result TakeFault.Failed → fault_count self.new ≡ fault_count self.old }
+        ensures count { fault_count self.old ≤ fault_count self.new }
+    {
         match self.read(alloc, name, limit) {
             Ok(bytes) => {
                 let read = bytes.len() as u64;
@@ -74,15 +93,20 @@ impl<R: Files> Shelf for PlainShelf<R> {
             }
             Err(e) if e.kind() == ErrorKind::OutOfMemory => Err(TakeFault::Memory),
             Err(_) => {
-                self.faults = self.faults.saturating_add(1);
+                self.count_fault();
                 Err(TakeFault::Failed)
             }
         }
     }
 
-    fn put(&mut self, name: &str, bytes: &[u8]) -> Result<(), PutFault> {
+    fn put(&mut self, name: &str, bytes: &[u8]) -> Result<(), PutFault>
+        ensures no_fault { OnOk result (fault_count self.new ≡ fault_count self.old) }
+        ensures failed { OnErr result (fault_count self.new ≡ counted (fault_count self.old)) }
+        ensures count { fault_count self.old ≤ fault_count self.new }
+        ensures no_memory { ¬ IsErrOf result PutFault.Memory }
+    {
         if self.write(name, bytes).is_err() {
-            self.faults = self.faults.saturating_add(1);
+            self.count_fault();
             return Err(PutFault::Failed);
         }
         Ok(())

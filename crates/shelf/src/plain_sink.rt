@@ -1,5 +1,6 @@
 //! The sink over a writer.
-ghost use Rattle.std.specs.Prelude.{◌≡◌, None, OnOk};
+ghost use Rattle.std.specs.Prelude.{◌≡◌, ◌≤◌, None, IsErrOf, OnOk, OnErr};
+ghost use Rattle.shelf.specs.Faults.{counted};
 ghost use Rattle.std.specs.Io.KnownBytes.{Appends};
 
 use crate::fault::SayFault;
@@ -43,13 +44,22 @@ impl<W: Write> PlainSink<W> {
 }
 
 impl<W: Write> Sink for PlainSink<W> {
+    ghost use Rattle.shelf.specs.PlainSink.{fault_count, writer_of};
+
     ghost text = { λ _. None };
 
     ghost faults = { λ s. s.faults };
 
     ghost sure = { λ _. ⊥ };
 
-    fn say(&mut self, bytes: &[u8]) -> Result<(), SayFault> {
+    fn say(&mut self, bytes: &[u8]) -> Result<(), SayFault>
+        // Where the writer tells what it holds, that has grown by the bytes.
+        ensures written { OnOk result (Appends (W.contents (writer_of self.old)) (W.contents (writer_of self.new)) bytes.now) }
+        ensures no_fault { OnOk result (fault_count self.new ≡ fault_count self.old) }
+        ensures failed { OnErr result (fault_count self.new ≡ counted (fault_count self.old)) }
+        ensures count { fault_count self.old ≤ fault_count self.new }
+        ensures no_memory { ¬ IsErrOf result SayFault.Memory }
+    {
         if write_whole(&mut self.out, bytes).is_err() {
             self.faults = self.faults.saturating_add(1);
             return Err(SayFault::Failed);
