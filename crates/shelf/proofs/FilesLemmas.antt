@@ -1,5 +1,5 @@
 -- A list of names with bytes, as the finite map from each name to its first bytes.
-use Rattle.std.proofs.Common.{◌≡◌, ◌≢◌, ℕ, zero, suc, ◌<◌, Bool, true, false, cond, List, [], ◌∷◌, ◌++◌, map, length, get_or, set, Option, Some, None, option_map, string_bytes, String, refl, sym, ap, subst, ◌∙◌, arith, ◌≤◌, true≢false}
+use Rattle.std.proofs.Common.{◌≡◌, ℕ, zero, suc, ◌<◌, Bool, true, false, cond, List, [], ◌∷◌, ◌++◌, map, length, get_or, set, Option, Some, None, option_map, string_bytes, String, refl, sym, ap, ◌∙◌, arith, ◌≤◌, true≢false}
 use Rattle.std.specs.Global.{Global, Vec}
 use Rattle.std.specs.List.{find, position, position_or_len}
 use Rattle.std.specs.Str.{bytes_eq}
@@ -14,7 +14,6 @@ use Rattle.std.proofs.lemmas.List.Quantifiers.{position-Some}
 use Rattle.std.proofs.lemmas.Option.{slice_get_past}
 use Rattle.std.proofs.lemmas.Bool.Decides.{nat_tests}
 use Rattle.std.proofs.lemmas.Slice.Eq.{bytes_eq-Decides}
-use Rattle.shelf.specs.Shelf.{Files}
 use Rattle.shelf.specs.MemShelf.{files_of}
 
 abbrev pub File : Type 0

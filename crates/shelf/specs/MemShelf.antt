@@ -1,5 +1,5 @@
 -- A shelf in memory as contracts see it.
-use Rattle.std.specs.Prelude.{ℕ, Bool, ◌||◌, List, is_none, if◌then◌else◌, map, refl, String, string_bytes}
+use Rattle.std.specs.Prelude.{ℕ, Bool, ◌||◌, List, is_none, map, refl, String, string_bytes}
 use Rattle.std.specs.Global.{Global, Vec}
 use Rattle.std.specs.Coded.{Coded, code_by, coded×, coded_ℕ, coded_list}
 use Rattle.std.specs.FinMap.{code, from_entries, get, insert}
