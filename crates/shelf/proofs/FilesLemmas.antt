@@ -42,14 +42,6 @@ find-entries (f ∷ fs) name =
 pub get-files_of : (files : List File) (name : List ℕ) → finite.get (files_of files) name ≡ option_map bytes_in (find (is_named name) files)
 get-files_of files name = finite.get-from_entries nat_list_cmp_total _ name ∙ find-entries files name
 
--- no file of the name is found, and the map has nothing at it
-pub get-absent : (files : List File) (name : List ℕ) → None ≡ find (is_named name) files → finite.get (files_of files) name ≡ None
-get-absent files name h = get-files_of files name ∙ ap (option_map bytes_in) (sym h)
-
--- the first file of the name is found, and the map has its bytes
-pub get-present : (files : List File) (name : List ℕ) (file : File) → Some file ≡ find (is_named name) files → finite.get (files_of files) name ≡ Some file.1.items
-get-present files name file h = get-files_of files name ∙ ap (option_map bytes_in) (sym h)
-
 overwritten : (b : Bool) (y f : File) (rest : Option File) → option_map bytes_in (cond b (Some y) rest) ≡ cond b (Some (bytes_in y)) (option_map bytes_in (cond b (Some f) rest))
 overwritten true y f rest = refl
 overwritten false y f rest = refl

@@ -51,10 +51,7 @@ fn file_of<'a>(files: &'a [(String, Vec<u8>)], name: &str) -> Option<&'a (String
 fn bytes_of<'a>(files: &'a [(String, Vec<u8>)], name: &str) -> Option<&'a [u8]>
     ensures { option_copied result ≡ map.get (files_of files.now) name.now }
 {
-    match file_of(files, name) {
-        Some(file) => Some(file.1.as_slice()),
-        None => None,
-    }
+    file_of(files, name).map(|file| file.1.as_slice())
 }
 
 /// A copy of any bytes.

@@ -12,7 +12,7 @@ use std::{fs, io};
 
 /// The files of a runtime, named by their paths. It tells none of them and is never sure: what a file
 /// holds is the system's word, and nothing is proved of it. Each error that the system answers counts
-/// as a fault.
+/// as a fault, but for want of memory at a take. A take asks for no more than `limit` bytes and one.
 #[derive(Drop)]
 pub struct PlainShelf<R> {
     rt: R,

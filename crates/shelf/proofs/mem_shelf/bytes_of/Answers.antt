@@ -1,9 +1,7 @@
-use Rattle.std.proofs.Common.{Some, ap, sym, ◌∙◌}
-use Rattle.shelf.proofs.FilesLemmas.{get-present, get-absent}
+use Rattle.std.proofs.Common.{rules}
+use Rattle.shelf.proofs.FilesLemmas.{get-files_of}
 use Rattle.shelf.proofs.mem_shelf.bytes_of.Goals as goal
 
-pub returns-in-Some : goal.returns-in-Some
-returns-in-Some c = ap Some c.as_slice.ensures.value ∙ sym (get-present c.args.files.now c.args.name.now c.in-Some.file.now c.in-Some.ensures)
-
-pub returns-in-None : goal.returns-in-None
-returns-in-None c = sym (get-absent c.args.files.now c.args.name.now c.in-None.ensures)
+-- the map has what the first file of the name holds
+pub returns : goal.returns
+returns c = rw (get-files_of c.args.files.now c.args.name.now, ← c.file_of.ensures) (search rules)
