@@ -33,7 +33,7 @@ pub struct SpacingTable {
 }
 
 /// A routing or cut layer. `width` and `horizontal` are used on routing layers alone.
-/// `spacing` is the greatest plain spacing.
+/// `spacing` is the greatest of the plain spacings and of the first entry of the table.
 #[derive(Debug, Drop)]
 pub struct Layer {
     pub name: Name,
