@@ -8,13 +8,17 @@ use Rattle.rt_base.specs.declared.walk.Edge.{Edge}
 use Rattle.rt_base.specs.declared.walk.EdgeKind.{EdgeKind}
 use Rattle.rt_base.specs.declared.walk.EdgeKind.TheVariants.{Along, Via as ByVia}
 use Rattle.track_graph.specs.declared.design.Design.{Design}
-use Rattle.track_graph.specs.Levels.{Ground, ground_of, IsVertex, along, line_of, positions_of, layer_no}
+use Rattle.track_graph.specs.Levels.{Ground, IsVertex, along, line_of, positions_of, layer_no}
 use Rattle.track_graph.specs.Guide.{Guide, InGuide, RunsInGuide}
 use Rattle.track_graph.specs.Metal.{Metal, distance, wire_metal, via_metal}
 
+-- no number of a list stands strictly between two
+abbrev pub NoneBetween : List ℤ → ℤ → ℤ → Type 0
+NoneBetween numbers low high = (z : ℤ) → Contains numbers z → low <ℤ z → z <ℤ high → ⊥
+
 -- two different numbers with no position strictly between them
 abbrev pub AreNeighbours : List ℤ → ℤ → ℤ → Type 0
-AreNeighbours positions a b = (a ≢ b) × ((z : ℤ) → Contains positions z → int_min a b <ℤ z → z <ℤ int_max a b → ⊥)
+AreNeighbours positions a b = (a ≢ b) × NoneBetween positions (int_min a b) (int_max a b)
 
 -- neighbouring positions of one track
 pub record IsAlong (g : Ground) (v w : Vertex) : Type 0 where

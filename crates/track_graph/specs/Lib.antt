@@ -10,3 +10,4 @@ pub mod Histories
 pub mod Orders
 pub mod Strokes
 pub mod Designs
+pub mod NetWalks

@@ -1,0 +1,4 @@
+pub mod GraphLemmas
+pub mod ShapeLemmas
+pub mod EntryLemmas
+pub mod PathLemmas
