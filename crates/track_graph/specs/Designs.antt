@@ -1,6 +1,8 @@
 -- What holds of every design: its numbers are in range, its parts fit each other, and each entry fits its pin.
-use Rattle.std.specs.Prelude.{◌≡◌, ◌⊎◌, ℕ, ◌+◌, ◌^◌, ◌%◌, ◌≤◌, ◌<◌, ℤ, pos, ◌<ℤ◌, ◌≤ℤ◌, List, IsTrue, not, length, slice_get, Some, All, AllPairs, Any, unsigned_abs}
+use Rattle.std.specs.Prelude.{◌≡◌, ◌⊎◌, ℕ, ◌+◌, ◌^◌, ◌%◌, ◌≤◌, ◌<◌, ℤ, pos, ◌<ℤ◌, ◌≤ℤ◌, List, IsTrue, not, length, slice_get, Some, All, AllPairs, Any, unsigned_abs, ◌*◌, ◌↔◌, Contains}
 use Rattle.rt_base.specs.Sides.{Sides}
+use Rattle.rt_base.specs.Tiles.{columns_of, rows_of}
+use Rattle.rt_base.specs.declared.geometry.Point.{Point}
 use Rattle.rt_base.specs.declared.grid.Grid.{Grid}
 use Rattle.rt_base.specs.declared.tech.Layer.{Layer}
 use Rattle.rt_base.specs.declared.tech.LayerNo.{LayerNo}
@@ -15,12 +17,16 @@ use Rattle.track_graph.specs.declared.design.Net.{Net}
 use Rattle.track_graph.specs.declared.design.Options.{Options}
 use Rattle.track_graph.specs.declared.design.Pin.{Pin}
 use Rattle.track_graph.specs.declared.design.Tracks.{Tracks}
-use Rattle.track_graph.specs.Levels.{Ground, ground_of, IsVertex, levels, layer_no, is_horizontal}
+use Rattle.track_graph.specs.Entries.{IsEntry}
+use Rattle.track_graph.specs.Levels.{TrackSystem, track_system_of, IsVertex, levels, layer_no, is_horizontal}
 use Rattle.track_graph.specs.Metal.{Metal}
 
 -- at most this far from 0
 abbrev pub IsWithin : ℕ → ℤ → Type 0
 IsWithin most z = unsigned_abs z ≤ most
+
+abbrev pub IsPointWithin : ℕ → Point → Type 0
+IsPointWithin most p = IsWithin most p.x × IsWithin most p.y
 
 abbrev pub AreSidesWithin : ℕ → Sides → Type 0
 AreSidesWithin most s = IsWithin most s.xl × IsWithin most s.yl × IsWithin most s.xh × IsWithin most s.yh
@@ -59,7 +65,7 @@ pub record IsTech (tech : Tech) : Type 0 where
   pub layer_count : length tech.layers < 2 ^ 32
   pub via_count : length tech.vias < 2 ^ 32
   pub level_count : length (levels tech) ≤ 16
-  pub turned : (level : ℕ) → level + 1 < length (levels tech) → is_horizontal tech (level + 1) ≡ not (is_horizontal tech level)
+  pub alternate : (level : ℕ) → level + 1 < length (levels tech) → is_horizontal tech (level + 1) ≡ not (is_horizontal tech level)
   pub widths : All (λ (l : ℕ × Layer). IsWidth l.1.width) (levels tech)
   pub spacings : All (λ (l : Layer). IsWithin (2 ^ 32) l.spacing) tech.layers
   pub vias : All (IsViaOf tech) tech.vias
@@ -68,18 +74,18 @@ pub record IsTech (tech : Tech) : Type 0 where
 pub record AreTracks (tech : Tech) (tracks : Tracks) : Type 0 where
   pub line_levels : length tracks.lines ≡ length (levels tech)
   pub step_levels : length tracks.largest_step ≡ length (levels tech)
-  pub few : All (λ lines. length lines ≤ 65536) tracks.lines
+  pub line_counts : All (λ lines. length lines ≤ 65536) tracks.lines
   pub ascending : All (λ lines. AllPairs (λ a b. a <ℤ b) lines) tracks.lines
   pub lines : All (λ lines. All (IsWithin (2 ^ 61)) lines) tracks.lines
-  pub steps : All (λ step. (pos 0 ≤ℤ step) × (step ≤ℤ pos (2 ^ 32))) tracks.largest_step
+  pub steps : All (IsWithin (2 ^ 32)) tracks.largest_step
 
 pub record IsGrid (grid : Grid) : Type 0 where
   pub die : AreSidesWithin (2 ^ 32) grid.die
   pub tile : (pos 1 ≤ℤ grid.tile) × (grid.tile ≤ℤ pos (2 ^ 35))
+  pub tiles : columns_of grid * rows_of grid < 2 ^ 32
 
 pub record AreOptions (options : Options) : Type 0 where
   pub via : options.via ≤ 2 ^ 20
-  pub rips : options.rips ≤ 16
 
 -- a shape on a layer, in range
 pub record IsMetal (tech : Tech) (m : Metal) : Type 0 where
@@ -96,17 +102,17 @@ KindFits pin rects (AtPin p) = p ≡ pin
 KindFits pin rects (Stub p k) = (p ≡ pin) × (k < length rects)
 KindFits pin rects OnWire = ⊥
 
-pub record FitsPin (g : Ground) (pin : ℕ) (rects : List Metal) (e : Entry) : Type 0 where
+pub record FitsPin (g : TrackSystem) (pin : ℕ) (rects : List Metal) (e : Entry) : Type 0 where
   pub vertex : IsVertex g e.vertex
   pub kind : KindFits pin rects e.kind
 
 -- pin k of a net
-pub record IsPin (g : Ground) (k : ℕ) (pin : Pin) : Type 0 where
+pub record IsPin (g : TrackSystem) (k : ℕ) (pin : Pin) : Type 0 where
   pub rect_count : length pin.rects < 2 ^ 32
   pub rects : All (IsMetal g.tech) pin.rects
   pub entries : All (FitsPin g k pin.rects) pin.entries
 
-pub record IsNet (g : Ground) (net : Net) : Type 0 where
+pub record IsNet (g : TrackSystem) (net : Net) : Type 0 where
   pub pin_count : length net.pins < 2 ^ 32
   pub pins : (k : ℕ) (pin : Pin) → slice_get net.pins k ≡ Some pin → IsPin g k pin
   pub guide : All (λ (box : ℕ × Sides). AreSidesWithin (2 ^ 32) box.1) net.guide
@@ -117,5 +123,9 @@ pub record IsDesign (d : Design) : Type 0 where
   pub grid : IsGrid d.grid
   pub options : AreOptions d.options
   pub net_count : length d.nets < 2 ^ 32
-  pub nets : All (IsNet (ground_of d)) d.nets
+  pub nets : All (IsNet (track_system_of d)) d.nets
   pub fixed : All (IsFixed d.tech) d.fixed
+
+-- each pin lists exactly its entries
+abbrev pub HasEntries : Design → Type 0
+HasEntries d = (n k : ℕ) (net : Net) (pin : Pin) (e : Entry) → slice_get d.nets n ≡ Some net → slice_get net.pins k ≡ Some pin → (Contains pin.entries e ↔ IsEntry (track_system_of d) k pin.rects e)

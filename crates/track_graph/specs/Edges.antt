@@ -8,16 +8,20 @@ use Rattle.rt_base.specs.declared.walk.Edge.{Edge}
 use Rattle.rt_base.specs.declared.walk.EdgeKind.{EdgeKind}
 use Rattle.rt_base.specs.declared.walk.EdgeKind.TheVariants.{Along, Via as ByVia}
 use Rattle.track_graph.specs.declared.design.Design.{Design}
-use Rattle.track_graph.specs.Levels.{Ground, IsVertex, along, line_of, positions_of, layer_no}
+use Rattle.track_graph.specs.Levels.{TrackSystem, IsVertex, along, line_of, positions_of, layer_no}
 use Rattle.track_graph.specs.Guide.{Guide, InGuide, RunsInGuide}
 use Rattle.track_graph.specs.Metal.{Metal, distance, wire_metal, via_metal}
 
+-- no number of a list stands strictly between two
+abbrev pub NoneBetween : List ℤ → ℤ → ℤ → Type 0
+NoneBetween numbers low high = (z : ℤ) → Contains numbers z → low <ℤ z → z <ℤ high → ⊥
+
 -- two different numbers with no position strictly between them
 abbrev pub AreNeighbours : List ℤ → ℤ → ℤ → Type 0
-AreNeighbours positions a b = (a ≢ b) × ((z : ℤ) → Contains positions z → int_min a b <ℤ z → z <ℤ int_max a b → ⊥)
+AreNeighbours positions a b = (a ≢ b) × NoneBetween positions (int_min a b) (int_max a b)
 
 -- neighbouring positions of one track
-pub record IsAlong (g : Ground) (v w : Vertex) : Type 0 where
+pub record IsAlong (g : TrackSystem) (v w : Vertex) : Type 0 where
   pub level : v.level ≡ w.level
   pub line : line_of g.tech v.level v.point ≡ line_of g.tech v.level w.point
   pub neighbours : AreNeighbours (positions_of g.tracks v.level) (along g.tech v.level v.point) (along g.tech v.level w.point)
@@ -39,12 +43,12 @@ pub record IsVia (tech : Tech) (k : ℕ) (v w : Vertex) : Type 0 where
   pub point : v.point ≡ w.point
   pub levels : ((w.level ≡ v.level + 1) × Joins tech k v.level) ⊎ ((v.level ≡ w.level + 1) × Joins tech k w.level)
 
-abbrev pub FitsKind : Ground → EdgeKind → Vertex → Vertex → Type 0
+abbrev pub FitsKind : TrackSystem → EdgeKind → Vertex → Vertex → Type 0
 FitsKind g Along v w = IsAlong g v w
 FitsKind g (ByVia k) v w = IsVia g.tech k v w
 
 -- an edge from v
-pub record IsEdge (g : Ground) (v : Vertex) (e : Edge) : Type 0 where
+pub record IsEdge (g : TrackSystem) (v : Vertex) (e : Edge) : Type 0 where
   pub start : IsVertex g v
   pub end : IsVertex g e.to
   pub kind : FitsKind g e.kind v e.to

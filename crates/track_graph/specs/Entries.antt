@@ -12,7 +12,7 @@ use Rattle.rt_base.specs.declared.walk.EntryKind.TheVariants.{Pin as AtPin, Stub
 use Rattle.track_graph.specs.declared.design.Design.{Design}
 use Rattle.track_graph.specs.declared.design.Net.{Net}
 use Rattle.track_graph.specs.declared.design.Pin.{Pin}
-use Rattle.track_graph.specs.Levels.{Ground, IsVertex, layer_no}
+use Rattle.track_graph.specs.Levels.{TrackSystem, IsVertex, layer_no}
 use Rattle.track_graph.specs.Metal.{Metal, distance, wire_metal}
 
 -- the point of a range that is nearest to z
@@ -24,17 +24,17 @@ abbrev pub nearest_point : Sides → Point → Point
 nearest_point s p = record { x = nearest s.xl s.xh p.x; y = nearest s.yl s.yh p.y }
 
 -- a vertex inside a rectangle of the pin on its level's layer
-pub record IsDirect (g : Ground) (pin : ℕ) (rects : List Metal) (e : Entry) : Type 0 where
+pub record IsPinEntry (g : TrackSystem) (pin : ℕ) (rects : List Metal) (e : Entry) : Type 0 where
   pub kind : e.kind ≡ AtPin pin
   pub vertex : IsVertex g e.vertex
   pub inside : Any (λ (r : Metal). (r.0.0 ≡ layer_no g.tech e.vertex.level) × Holds r.1 e.vertex.point) rects
 
 -- how far a stub of a level may reach
-abbrev pub stub_reach : Ground → ℕ → ℕ
+abbrev pub stub_reach : TrackSystem → ℕ → ℕ
 stub_reach g level = 2 * unsigned_abs (unwrap_or (slice_get g.tracks.largest_step level) (pos 0))
 
 -- a vertex near rectangle k of the pin, on its level's layer
-pub record IsStub (g : Ground) (pin : ℕ) (rects : List Metal) (e : Entry) : Type 0 where
+pub record IsStubEntry (g : TrackSystem) (pin : ℕ) (rects : List Metal) (e : Entry) : Type 0 where
   pub k : ℕ
   pub metal : Metal
   pub kind : e.kind ≡ Stub pin k
@@ -44,8 +44,8 @@ pub record IsStub (g : Ground) (pin : ℕ) (rects : List Metal) (e : Entry) : Ty
   pub near : distance (nearest_point metal.1 e.vertex.point) e.vertex.point ≤ stub_reach g e.vertex.level
 
 -- the vertices inside, or the stubs where there is none
-abbrev pub IsEntry : Ground → ℕ → List Metal → Entry → Type 0
-IsEntry g pin rects e = IsDirect g pin rects e ⊎ (((f : Entry) → IsDirect g pin rects f → ⊥) × IsStub g pin rects e)
+abbrev pub IsEntry : TrackSystem → ℕ → List Metal → Entry → Type 0
+IsEntry g pin rects e = IsPinEntry g pin rects e ⊎ (((f : Entry) → IsPinEntry g pin rects f → ⊥) × IsStubEntry g pin rects e)
 
 -- the pins, entries and rectangles of a design by number; nothing where there are none
 abbrev pub pins_of : Design → ℕ → List Pin
@@ -67,12 +67,17 @@ rect_of d n pin k = (unwrap_or (slice_get (rects_of d n pin) k) no_metal).1
 abbrev pub piece_metal : Tech → ℕ → Point → Point → List Metal
 piece_metal tech level p q = if distance p q == 0 then [] else wire_metal tech level p q ∷ []
 
--- from the rectangle's nearest point in x and then in y to the vertex, at 4 for each unit
+-- where a stub from p to v turns
+abbrev pub corner_of : Point → Vertex → Point
+corner_of p v = record { x = v.point.x; y = p.y }
+
+-- from p in x and then in y to the vertex
+abbrev pub stub_metal : Tech → Point → Vertex → List Metal
+stub_metal tech p v = piece_metal tech v.level p (corner_of p v) ++ piece_metal tech v.level (corner_of p v) v.point
+
+-- from the rectangle's nearest point, at 4 for each unit
 abbrev pub stub_part : Tech → Sides → Vertex → ℕ × List Metal
-stub_part tech s v =
-    let p = nearest_point s v.point in
-    let corner : Point = record { x = v.point.x; y = p.y } in
-    (4 * distance p v.point, piece_metal tech v.level p corner ++ piece_metal tech v.level corner v.point)
+stub_part tech s v = let p = nearest_point s v.point in (4 * distance p v.point, stub_metal tech p v)
 
 abbrev pub entry_kind_part : Design → ℕ → EntryKind → Vertex → ℕ × List Metal
 entry_kind_part d n (AtPin pin) v = (0, [])

@@ -10,13 +10,13 @@ use Rattle.track_graph.specs.declared.design.Design.{Design}
 use Rattle.track_graph.specs.declared.design.Tracks.{Tracks}
 
 -- what vertices stand on: a technology, the tracks of its levels and a die
-pub record Ground : Type 0 where
+pub record TrackSystem : Type 0 where
   pub tech : Tech
   pub tracks : Tracks
   pub die : Sides
 
-abbrev pub ground_of : Design → Ground
-ground_of d = record { tech = d.tech; tracks = d.tracks; die = d.grid.die }
+abbrev pub track_system_of : Design → TrackSystem
+track_system_of d = record { tech = d.tech; tracks = d.tracks; die = d.grid.die }
 
 -- the routing layers, bottom up, with their numbers among all layers; the first of the list has number n
 abbrev pub routing_from : ℕ → List Layer → List (ℕ × Layer)
@@ -39,6 +39,10 @@ is_horizontal tech level = unwrap_or (option_map (λ (l : ℕ × Layer). l.1.hor
 abbrev pub width_of : Tech → ℕ → ℤ
 width_of tech level = unwrap_or (option_map (λ (l : ℕ × Layer). l.1.width) (slice_get (levels tech) level)) (pos 0)
 
+-- the name of a level's layer, empty where there is no such level
+abbrev pub layer_name_of : Tech → ℕ → List ℕ
+layer_name_of tech level = unwrap_or (option_map (λ (l : ℕ × Layer). l.1.name) (slice_get (levels tech) level)) []
+
 -- where a point stands along the tracks of a level, and which line it is on
 abbrev pub along : Tech → ℕ → Point → ℤ
 along tech level p = if is_horizontal tech level then p.x else p.y
@@ -60,7 +64,7 @@ abbrev pub positions_of : Tracks → ℕ → List ℤ
 positions_of tracks level = lines_below tracks level ++ lines_of tracks (level + 1)
 
 -- a level and a point of the closed die, on a track of the level and at a position of the level
-pub record IsVertex (g : Ground) (v : Vertex) : Type 0 where
+pub record IsVertex (g : TrackSystem) (v : Vertex) : Type 0 where
   pub level : v.level < length (levels g.tech)
   pub in_die : Holds g.die v.point
   pub on_track : Contains (lines_of g.tracks v.level) (line_of g.tech v.level v.point)

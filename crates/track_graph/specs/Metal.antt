@@ -41,6 +41,9 @@ via_rects tech k = unwrap_or (option_map (λ (v : Via). v.rects) (slice_get tech
 abbrev pub via_metal : Tech → ℕ → Point → List Metal
 via_metal tech k p = map (λ (r : Metal). (r.0, moved p r.1)) (via_rects tech k)
 
--- rectangles of a net's wires, as shapes
+-- a rectangle of a net's wires, as a shape
+abbrev pub shape_of : ℕ → Metal → Shape
+shape_of n m = record { layer = m.0; rect = m.1; owner = OfNet n; fixed = false }
+
 abbrev pub shapes_of : ℕ → List Metal → List Shape
-shapes_of n metal = map (λ (m : Metal). record { layer = m.0; rect = m.1; owner = OfNet n; fixed = false }) metal
+shapes_of n metal = map (shape_of n) metal

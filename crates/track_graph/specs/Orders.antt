@@ -9,8 +9,8 @@ use Rattle.track_graph.specs.Entries.{pins_of}
 use Rattle.track_graph.specs.Histories.{IsRoutable}
 
 -- the smallest rectangle that holds two
-abbrev pub joined_sides : Sides → Sides → Sides
-joined_sides a b = record { xl = int_min a.xl b.xl; yl = int_min a.yl b.yl; xh = int_max a.xh b.xh; yh = int_max a.yh b.yh }
+abbrev pub hull_of_sides : Sides → Sides → Sides
+hull_of_sides a b = record { xl = int_min a.xl b.xl; yl = int_min a.yl b.yl; xh = int_max a.xh b.xh; yh = int_max a.yh b.yh }
 
 abbrev pub half_perimeter : Sides → ℕ
 half_perimeter s = unsigned_abs (s.xh -ℤ s.xl) + unsigned_abs (s.yh -ℤ s.yl)
@@ -18,7 +18,7 @@ half_perimeter s = unsigned_abs (s.xh -ℤ s.xl) + unsigned_abs (s.yh -ℤ s.yl)
 -- half the perimeter of the hull of rectangles, 0 where there is none
 abbrev pub hull_extent : List Metal → ℕ
 hull_extent [] = 0
-hull_extent (r ∷ rs) = half_perimeter (fold (λ s (m : Metal). joined_sides s m.1) r.1 rs)
+hull_extent (r ∷ rs) = half_perimeter (fold (λ s (m : Metal). hull_of_sides s m.1) r.1 rs)
 
 abbrev pub net_extent : Design → ℕ → ℕ
 net_extent d n = hull_extent (flat_map (λ (p : Pin). p.rects) (pins_of d n))

@@ -11,7 +11,7 @@ use Rattle.track_graph.specs.declared.design.Design.{Design}
 use Rattle.track_graph.specs.declared.design.Net.{Net}
 use Rattle.track_graph.specs.declared.history.NetState.{NetState}
 use Rattle.track_graph.specs.declared.history.State.{State}
-use Rattle.track_graph.specs.Levels.{ground_of}
+use Rattle.track_graph.specs.Levels.{track_system_of}
 use Rattle.track_graph.specs.Guide.{Guide, InGuide}
 use Rattle.track_graph.specs.Metal.{Metal, shapes_of}
 use Rattle.track_graph.specs.Entries.{entries_of}
@@ -21,11 +21,11 @@ use Rattle.track_graph.specs.States.{net_state, standing_from}
 -- which shapes forbid, and which only make a part cost eight times as much
 pub record Reading : Type 0 where
   pub forbidding : List Shape
-  pub dear : List Shape
+  pub soft : List Shape
 
 -- every fixed and every standing shape forbids
 abbrev pub hard_reading : Design → State → Reading
-hard_reading d s = record { forbidding = d.fixed ++ standing_from d (λ n net. true) 0 s.nets; dear = [] }
+hard_reading d s = record { forbidding = d.fixed ++ standing_from d (λ n net. true) 0 s.nets; soft = [] }
 
 -- another net than n that was ripped less often than the user allows
 abbrev pub may_rip : Design → ℕ → ℕ → NetState → Bool
@@ -35,7 +35,7 @@ may_rip d n m net = not (m == n) && nat_lt net.rips d.options.rips
 abbrev pub soft_reading : Design → State → ℕ → Reading
 soft_reading d s n = record {
   forbidding = d.fixed ++ standing_from d (λ m net. not (may_rip d n m net)) 0 s.nets;
-  dear = standing_from d (may_rip d n) 0 s.nets;
+  soft = standing_from d (may_rip d n) 0 s.nets;
 }
 
 -- a shape of the one list conflicts with a shape of the other
@@ -55,7 +55,7 @@ IsFinish d s n e = (pin : ℕ) × (slice_get (net_state s n).joined pin ≡ Some
 -- a walk of net n: it finishes where its edges end
 pub record IsWalk (d : Design) (s : State) (n : ℕ) (w : Walk) : Type 0 where
   pub start : IsStart d s n w.start
-  pub path : IsPath (ground_of d) w.start.vertex w.edges
+  pub path : IsPath (track_system_of d) w.start.vertex w.edges
   pub arrives : end_of w.start.vertex w.edges ≡ w.finish.vertex
   pub finish : IsFinish d s n w.finish
 
@@ -70,9 +70,9 @@ pub record IsLegal (d : Design) (s : State) (reading : Reading) (n : ℕ) (w : W
   pub path_in : PathInGuide (guide_of d n) w.start.vertex w.edges
   pub clear : some_conflict d.tech (walk_shapes_of d n w) reading.forbidding ≡ false
 
--- eight times as much where it conflicts with a dear shape
+-- eight times as much where it conflicts with a soft shape
 abbrev pub part_cost : Design → Reading → ℕ → ℕ × List Metal → ℕ
-part_cost d reading n part = if some_conflict d.tech (shapes_of n part.1) reading.dear then 8 * part.0 else part.0
+part_cost d reading n part = if some_conflict d.tech (shapes_of n part.1) reading.soft then 8 * part.0 else part.0
 
 -- the sum over both entries and all edges
 abbrev pub walk_cost : Design → Reading → ℕ → Walk → ℕ

@@ -14,7 +14,7 @@ use Rattle.track_graph.specs.declared.design.Design.{Design}
 use Rattle.track_graph.specs.declared.history.Stroke.{Stroke}
 use Rattle.track_graph.specs.declared.history.Stroke.TheVariants.{Run, Via as ViaAt}
 use Rattle.track_graph.specs.Metal.{distance}
-use Rattle.track_graph.specs.Entries.{nearest_point, rect_of}
+use Rattle.track_graph.specs.Entries.{nearest_point, corner_of, rect_of}
 
 -- a run, or nothing where its ends are one point
 abbrev pub run_between : ℕ → Point → Point → List Stroke
@@ -24,8 +24,7 @@ run_between level a b = if distance a b == 0 then [] else Run level a b ∷ []
 abbrev pub stub_strokes : Sides → Vertex → List Stroke
 stub_strokes s v =
     let p = nearest_point s v.point in
-    let corner : Point = record { x = v.point.x; y = p.y } in
-    run_between v.level p corner ++ run_between v.level corner v.point
+    run_between v.level p (corner_of p v) ++ run_between v.level (corner_of p v) v.point
 
 abbrev pub entry_kind_strokes : Design → ℕ → EntryKind → Vertex → List Stroke
 entry_kind_strokes d n (AtPin pin) v = []
@@ -44,13 +43,13 @@ is_along Along = true
 is_along (ByVia k) = false
 
 -- from a to b and from b to c is one way
-abbrev pub is_one_way : Point → Point → Point → Bool
-is_one_way a b c = if is_up a b then is_up b c else not (is_up b c)
+abbrev pub is_same_direction : Point → Point → Point → Bool
+is_same_direction a b c = if is_up a b then is_up b c else not (is_up b c)
 
 -- the run from a to b goes on with the first of these edges
 abbrev pub goes_on : Point → Point → List Edge → Bool
 goes_on a b [] = false
-goes_on a b (e ∷ es) = is_along e.kind && is_one_way a b e.to.point
+goes_on a b (e ∷ es) = is_along e.kind && is_same_direction a b e.to.point
 
 -- the first run begins at a
 abbrev pub begun_at : Point → List Stroke → List Stroke

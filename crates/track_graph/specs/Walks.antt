@@ -5,14 +5,14 @@ use Rattle.rt_base.specs.declared.walk.Vertex.{Vertex}
 use Rattle.rt_base.specs.declared.walk.Edge.{Edge}
 use Rattle.rt_base.specs.declared.walk.Walk.{Walk}
 use Rattle.track_graph.specs.declared.design.Design.{Design}
-use Rattle.track_graph.specs.Levels.{Ground}
+use Rattle.track_graph.specs.Levels.{TrackSystem}
 use Rattle.track_graph.specs.Guide.{Guide}
 use Rattle.track_graph.specs.Metal.{Metal, shapes_of}
 use Rattle.track_graph.specs.Edges.{IsEdge, edge_metal, EdgeInGuide, edge_cost_of}
 use Rattle.track_graph.specs.Entries.{entry_part}
 
 -- edges that follow each other, from v on
-abbrev pub IsPath : Ground → Vertex → List Edge → Type 0
+abbrev pub IsPath : TrackSystem → Vertex → List Edge → Type 0
 IsPath g v [] = ⊤
 IsPath g v (e ∷ es) = IsEdge g v e × IsPath g e.to es
 
