@@ -1,7 +1,6 @@
 -- What holds of every design: its numbers are in range, its parts fit each other, and each entry fits its pin.
-use Rattle.std.specs.Prelude.{◌≡◌, ◌⊎◌, ℕ, ◌+◌, ◌^◌, ◌%◌, ◌≤◌, ◌<◌, ℤ, pos, ◌<ℤ◌, ◌≤ℤ◌, List, IsTrue, not, length, slice_get, Some, All, AllPairs, Any, unsigned_abs, ◌*◌, ◌↔◌, Contains}
+use Rattle.std.specs.Prelude.{◌≡◌, ◌⊎◌, ℕ, ◌+◌, ◌^◌, ◌%◌, ◌≤◌, ◌<◌, ℤ, pos, ◌<ℤ◌, ◌≤ℤ◌, List, IsTrue, not, length, slice_get, Some, All, AllPairs, Any, unsigned_abs, ◌↔◌, Contains}
 use Rattle.rt_base.specs.Sides.{Sides}
-use Rattle.rt_base.specs.Tiles.{columns_of, rows_of}
 use Rattle.rt_base.specs.declared.geometry.Point.{Point}
 use Rattle.rt_base.specs.declared.grid.Grid.{Grid}
 use Rattle.rt_base.specs.declared.tech.Layer.{Layer}
@@ -82,7 +81,6 @@ pub record AreTracks (tech : Tech) (tracks : Tracks) : Type 0 where
 pub record IsGrid (grid : Grid) : Type 0 where
   pub die : AreSidesWithin (2 ^ 32) grid.die
   pub tile : (pos 1 ≤ℤ grid.tile) × (grid.tile ≤ℤ pos (2 ^ 35))
-  pub tiles : columns_of grid * rows_of grid < 2 ^ 32
 
 pub record AreOptions (options : Options) : Type 0 where
   pub via : options.via ≤ 2 ^ 20
