@@ -4,7 +4,7 @@ use Rattle.std.proofs.lemmas.List.Sums.{fold-append}
 use Rattle.rt_base.specs.Sides.{Sides}
 use Rattle.track_graph.specs.declared.design.Pin.{Pin}
 use Rattle.track_graph.specs.Metal.{Metal}
-use Rattle.track_graph.specs.Orders.{joined_sides, half_perimeter, hull_extent}
+use Rattle.track_graph.specs.Orders.{hull_of_sides, half_perimeter, hull_extent}
 use Rattle.ripup.specs.Hulls.{with_rect, with_pin}
 
 abbrev pub rects_of_pins : List Pin → List Metal
@@ -16,9 +16,9 @@ fold-with_pin hull (pin ∷ pins) =
     fold-with_pin (fold with_rect hull pin.rects) pins
     ∙ sym (fold-append with_rect hull pin.rects (rects_of_pins pins))
 
-fold-with_rect : (s : Sides) (ms : List Metal) → fold with_rect (Some s) ms ≡ Some (fold (λ t (m : Metal). joined_sides t m.1) s ms)
+fold-with_rect : (s : Sides) (ms : List Metal) → fold with_rect (Some s) ms ≡ Some (fold (λ t (m : Metal). hull_of_sides t m.1) s ms)
 fold-with_rect s [] = refl
-fold-with_rect s (m ∷ ms) = fold-with_rect (joined_sides s m.1) ms
+fold-with_rect s (m ∷ ms) = fold-with_rect (hull_of_sides s m.1) ms
 
 -- half the perimeter of a hull, 0 where there is none
 abbrev pub extent_of : Option Sides → ℕ

@@ -5,12 +5,12 @@ use Rattle.track_graph.specs.declared.design.Design.{Design}
 use Rattle.track_graph.specs.declared.design.Pin.{Pin}
 use Rattle.track_graph.specs.Histories.{IsRoutable}
 use Rattle.track_graph.specs.Metal.{Metal}
-use Rattle.track_graph.specs.Orders.{joined_sides, net_extent}
+use Rattle.track_graph.specs.Orders.{hull_of_sides, net_extent}
 
 -- the hull of a rectangle and of what there is already
 abbrev pub with_sides : Option Sides → Sides → Sides
 with_sides None s = s
-with_sides (Some hull) s = joined_sides hull s
+with_sides (Some hull) s = hull_of_sides hull s
 
 abbrev pub with_rect : Option Sides → Metal → Option Sides
 with_rect hull m = Some (with_sides hull m.1)

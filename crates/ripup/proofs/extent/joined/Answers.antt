@@ -2,7 +2,7 @@ use Rattle.std.proofs.Common.{◌≡◌, ◌∙◌, ℤ, Option, refl, sym, ap, 
 use Rattle.std.proofs.lemmas.Int.{to_z-of_z}
 use Rattle.std.specs.Int.{int_min, int_max}
 use Rattle.rt_base.specs.Sides.{Sides}
-use Rattle.track_graph.specs.Orders.{joined_sides}
+use Rattle.track_graph.specs.Orders.{hull_of_sides}
 use Rattle.ripup.specs.Hulls.{with_sides}
 use Rattle.ripup.proofs.extent.joined.Goals as goal
 
@@ -17,6 +17,6 @@ returns-in-Some c =
     let yh : to_z w64 (of_z w64 c.max-in-Some.result) ≡ int_max c.hull.inside.yh c.rect.inside.yh = grind (arith, to_z-of_z) in
     let rect : Sides = record { xl = c.rect.inside.xl; yl = c.rect.inside.yl; xh = c.rect.inside.xh; yh = c.rect.inside.yh } in
     same_sides _ _ _ _ _ _ _ _ xl yl xh yh
-    ∙ ap (λ (s : Sides). joined_sides s rect) c.hull.view_is
-    ∙ ap (λ (s : Sides). joined_sides c.in-Some.hull s) c.rect.view_is
+    ∙ ap (λ (s : Sides). hull_of_sides s rect) c.hull.view_is
+    ∙ ap (λ (s : Sides). hull_of_sides c.in-Some.hull s) c.rect.view_is
     ∙ ap (λ (h : Option Sides). with_sides h c.args.rect) (sym c.in-Some.is)
