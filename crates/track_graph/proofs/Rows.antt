@@ -14,7 +14,7 @@ use Rattle.rt_base.specs.declared.tech.Via.{Via}
 use Rattle.rt_base.specs.declared.walk.Edge.{Edge}
 use Rattle.rt_base.specs.declared.walk.EdgeKind.TheVariants.{Along, Via as ByVia}
 use Rattle.rt_base.specs.declared.walk.Entry.{Entry}
-use Rattle.rt_base.specs.declared.walk.EntryKind.TheVariants.{Pin as AtPin, Stub, Wire as OnWire}
+use Rattle.rt_base.specs.declared.walk.EntryKind.TheVariants.{Pin as AtPin, Stub}
 use Rattle.rt_base.specs.declared.walk.Vertex.{Vertex}
 use Rattle.rt_base.specs.declared.walk.Walk.{Walk}
 use Rattle.track_graph.specs.declared.design.Design.{Design}
@@ -24,8 +24,11 @@ use Rattle.track_graph.specs.declared.design.Pin.{Pin}
 use Rattle.track_graph.specs.declared.history.Stroke.{Stroke}
 use Rattle.track_graph.specs.declared.history.Stroke.TheVariants.{Run, Via as ViaAt}
 use Rattle.track_graph.specs.Metal.{Metal}
-use Rattle.track_graph.specs.States.{first_state}
-use Rattle.track_graph.specs.Searches.{hard_reading, some_conflict, walk_cost}
+use Rattle.track_graph.specs.declared.history.Block.TheVariants.{Wire, RipFor}
+use Rattle.track_graph.specs.declared.history.State.{State}
+use Rattle.track_graph.specs.Histories.{crossed_from}
+use Rattle.track_graph.specs.States.{first_state, net_state, state_of}
+use Rattle.track_graph.specs.Searches.{hard_reading, soft_reading, some_conflict, walk_cost}
 use Rattle.track_graph.specs.Strokes.{walk_strokes}
 use Rattle.track_graph.specs.Walks.{walk_shapes_of, end_of}
 use Rattle.track_graph.specs.Guide.{Guide, InGuide, RunsInGuide}
@@ -38,8 +41,8 @@ use Rattle.std.proofs.lemmas.Bool.{cases_lt}
 abbrev sides : ℤ → ℤ → ℤ → ℤ → Sides
 sides xl yl xh yh = record { xl = xl; yl = yl; xh = xh; yh = yh }
 
-abbrev no : ℕ → LayerNo
-no n = record { 0 = n }
+abbrev layer_number : ℕ → LayerNo
+layer_number n = record { 0 = n }
 
 abbrev layer : List ℕ → Bool → Bool → Layer
 layer name routing horizontal = record { name = name; routing = routing; horizontal = horizontal; width = pos 100; spacing = pos 100; table = record { lengths = []; rows = [] } }
@@ -48,7 +51,7 @@ abbrev pad : Sides
 pad = sides (negsuc 49) (negsuc 49) (pos 50) (pos 50)
 
 abbrev via : Via
-via = record { name = 86 ∷ []; usable = true; rects = (no 0, pad) ∷ (no 1, sides (negsuc 24) (negsuc 24) (pos 25) (pos 25)) ∷ (no 2, pad) ∷ [] }
+via = record { name = 86 ∷ []; usable = true; rects = (layer_number 0, pad) ∷ (layer_number 1, sides (negsuc 24) (negsuc 24) (pos 25) (pos 25)) ∷ (layer_number 2, pad) ∷ [] }
 
 abbrev tech : Tech
 tech = record { layers = layer (77 ∷ 49 ∷ []) true true ∷ layer (67 ∷ []) false false ∷ layer (77 ∷ 50 ∷ []) true false ∷ []; vias = via ∷ [] }
@@ -79,7 +82,7 @@ abbrev by_via : ℕ → ℕ → ℕ → Edge
 by_via level x y = record { kind = ByVia 0; to = at level x y }
 
 abbrev run : ℕ → ℕ → ℕ → ℕ → ℕ → Stroke
-run level ax ay bx by_ = Run level (record { x = pos ax; y = pos ay }) (record { x = pos bx; y = pos by_ })
+run level ax ay bx end_y = Run level (record { x = pos ax; y = pos ay }) (record { x = pos bx; y = pos end_y })
 
 abbrev via_at : ℕ → ℕ → Stroke
 via_at x y = ViaAt 0 (record { x = pos x; y = pos y })
@@ -111,10 +114,13 @@ corner_arrives = refl
 abbrev spot : Walk
 spot = record { start = record { vertex = at 0 300 300; kind = AtPin 0 }; edges = []; finish = record { vertex = at 0 300 300; kind = AtPin 1 } }
 
-spot_cost : walk_cost corner_chip (hard_reading corner_chip (first_state corner_chip)) 0 spot ≡ 0
+abbrev spot_chip : Design
+spot_chip = chip (pin_at 0 0 300 300 ∷ pin_at 1 0 300 300 ∷ []) []
+
+spot_cost : walk_cost spot_chip (hard_reading spot_chip (first_state spot_chip)) 0 spot ≡ 0
 spot_cost = refl
 
-spot_strokes : walk_strokes corner_chip 0 spot ≡ []
+spot_strokes : walk_strokes spot_chip 0 spot ≡ []
 spot_strokes = refl
 
 -- ---- a straight wire, wires beside it, and blockages
@@ -126,11 +132,17 @@ straight y = record {
   finish = record { vertex = at 0 900 y; kind = AtPin 1 };
 }
 
+abbrev flat_chip : Design
+flat_chip = chip (pin_at 0 0 100 100 ∷ pin_at 1 0 900 100 ∷ []) []
+
+straight_cost : walk_cost flat_chip (hard_reading flat_chip (first_state flat_chip)) 0 (straight 100) ≡ 800
+straight_cost = refl
+
 abbrev wire_shapes : ℕ → ℕ → List Shape
-wire_shapes n y = walk_shapes_of corner_chip n (straight y)
+wire_shapes n y = walk_shapes_of flat_chip n (straight y)
 
 abbrev blockage : ℕ → ℕ → Shape
-blockage yl yh = record { layer = no 0; rect = sides (pos 480) (pos yl) (pos 520) (pos yh); owner = Nobody; fixed = true }
+blockage yl yh = record { layer = layer_number 0; rect = sides (pos 480) (pos yl) (pos 520) (pos yh); owner = Nobody; fixed = true }
 
 -- two tracks are 100 units apart, edge to edge
 beside : some_conflict tech (wire_shapes 0 100) (wire_shapes 1 300) ≡ false
@@ -156,16 +168,16 @@ detour = record {
   finish = record { vertex = at 0 900 100; kind = AtPin 1 };
 }
 
-detour_cost : walk_cost corner_chip (hard_reading corner_chip (first_state corner_chip)) 0 detour ≡ 5600
+detour_cost : walk_cost flat_chip (hard_reading flat_chip (first_state flat_chip)) 0 detour ≡ 5600
 detour_cost = refl
 
-detour_clear : some_conflict tech (walk_shapes_of corner_chip 0 detour) (blockage 249 251 ∷ []) ≡ false
+detour_clear : some_conflict tech (walk_shapes_of flat_chip 0 detour) (blockage 249 251 ∷ []) ≡ false
 detour_clear = refl
 
 -- ---- corners: 60 * 60 + 80 * 80 is 100 * 100, and 60 * 60 + 79 * 79 is less
 
 abbrev square : ℕ → ℕ → ℕ → ℕ → ℕ → Shape
-square n xl yl xh yh = record { layer = no 0; rect = sides (pos xl) (pos yl) (pos xh) (pos yh); owner = OfNet n; fixed = true }
+square n xl yl xh yh = record { layer = layer_number 0; rect = sides (pos xl) (pos yl) (pos xh) (pos yh); owner = OfNet n; fixed = true }
 
 far_corners : conflict_of tech (square 0 0 0 100 100) (square 1 160 180 260 280) ≡ false
 far_corners = refl
@@ -176,7 +188,7 @@ near_corners = refl
 -- ---- a stub from the pin's corner (150, 150) in x and then in y
 
 abbrev stub_pin : Pin
-stub_pin = record { comp = []; pin = []; rects = (no 0, sides (pos 150) (pos 150) (pos 160) (pos 160)) ∷ []; entries = record { vertex = at 0 100 100; kind = Stub 0 0 } ∷ [] }
+stub_pin = record { comp = []; pin = []; rects = (layer_number 0, sides (pos 150) (pos 150) (pos 160) (pos 160)) ∷ []; entries = record { vertex = at 0 100 100; kind = Stub 0 0 } ∷ [] }
 
 abbrev stub_chip : Design
 stub_chip = chip (stub_pin ∷ pin_at 1 1 900 500 ∷ []) []
@@ -191,7 +203,7 @@ stubbed_cost = refl
 stubbed_strokes : walk_strokes stub_chip 0 stubbed ≡ run 0 150 150 100 150 ∷ run 0 100 150 100 100 ∷ run 0 100 100 900 100 ∷ via_at 900 100 ∷ run 1 900 100 900 500 ∷ []
 stubbed_strokes = refl
 
--- ---- guides: boxes that meet at a unit hold the run over it, and a gap of one unit doesn't
+-- ---- guides: boxes with no whole number between them hold the run over both, and boxes with one between them don't
 
 abbrev meeting : Guide
 meeting = (0, sides (pos 0) (pos 0) (pos 399) (pos 200)) ∷ (0, sides (pos 400) (pos 0) (pos 1000) (pos 200)) ∷ []
@@ -234,3 +246,57 @@ meeting_open r h =
       | inl before ↦ Any-here (BoxHolds r) (0, sides (pos 0) (pos 0) (pos 399) (pos 200)) ((0, sides (pos 400) (pos 0) (pos 1000) (pos 200)) ∷ []) (refl, record { left = omega (arith, ints); right = before; low = omega (arith, ints); high = omega (arith, ints) })
       | inr after ↦ Any-there (BoxHolds r) (0, sides (pos 0) (pos 0) (pos 399) (pos 200)) ((0, sides (pos 400) (pos 0) (pos 1000) (pos 200)) ∷ []) (Any-here (BoxHolds r) (0, sides (pos 400) (pos 0) (pos 1000) (pos 200)) [] (refl, record { left = omega (arith, ints); right = omega (arith, ints); low = omega (arith, ints); high = omega (arith, ints) }))
     ]
+
+-- ---- rips: a lower level of two tracks, on which net 0 crosses the only way of net 1
+
+abbrev two_lines : List ℤ
+two_lines = pos 100 ∷ pos 300 ∷ []
+
+abbrev rip_chip : Design
+rip_chip = record (chip [] []) {
+  tracks = record { lines = two_lines ∷ lines ∷ []; largest_step = pos 200 ∷ pos 200 ∷ [] };
+  nets = net (pin_at 0 1 300 100 ∷ pin_at 1 1 900 100 ∷ []) ∷ net (pin_at 0 0 100 100 ∷ pin_at 1 0 1100 100 ∷ []) ∷ [];
+}
+
+abbrev crossing : Walk
+crossing = record {
+  start = record { vertex = at 1 300 100; kind = AtPin 0 };
+  edges = by_via 0 300 100 ∷ along 0 500 100 ∷ along 0 700 100 ∷ along 0 900 100 ∷ by_via 1 900 100 ∷ [];
+  finish = record { vertex = at 1 900 100; kind = AtPin 1 };
+}
+
+abbrev through : Walk
+through = record {
+  start = record { vertex = at 0 100 100; kind = AtPin 0 };
+  edges = along 0 300 100 ∷ along 0 500 100 ∷ along 0 700 100 ∷ along 0 900 100 ∷ along 0 1100 100 ∷ [];
+  finish = record { vertex = at 0 1100 100; kind = AtPin 1 };
+}
+
+abbrev crossed : State
+crossed = state_of rip_chip (Wire 0 crossing ∷ [])
+
+crossing_cost : walk_cost rip_chip (hard_reading rip_chip (first_state rip_chip)) 0 crossing ≡ 2600
+crossing_cost = refl
+
+crossing_forbids : some_conflict tech (walk_shapes_of rip_chip 1 through) (hard_reading rip_chip crossed).forbidding ≡ true
+crossing_forbids = refl
+
+-- each of its five edges conflicts with net 0's wire
+soft_cost : walk_cost rip_chip (soft_reading rip_chip crossed 1) 1 through ≡ 8000
+soft_cost = refl
+
+soft_allows : some_conflict tech (walk_shapes_of rip_chip 1 through) (soft_reading rip_chip crossed 1).forbidding ≡ false
+soft_allows = refl
+
+ripped : crossed_from rip_chip 1 through 0 crossed.nets ≡ 0 ∷ []
+ripped = refl
+
+abbrev after_rip : State
+after_rip = state_of rip_chip (Wire 0 crossing ∷ RipFor 1 through (0 ∷ []) through ∷ [])
+
+-- net 0 has only its first pin joined and one rip, and net 1 is joined
+emptied_net_0 : net_state after_rip 0 ≡ record { walks = []; joined = true ∷ false ∷ []; rips = 1; stuck = false }
+emptied_net_0 = refl
+
+joined_net_1 : net_state after_rip 1 ≡ record { walks = through ∷ []; joined = true ∷ true ∷ []; rips = 0; stuck = false }
+joined_net_1 = refl
