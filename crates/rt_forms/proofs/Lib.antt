@@ -1,0 +1,5 @@
+pub mod Texts
+pub mod Clauses
+pub mod Ends
+pub mod Laws
+pub mod Skips
