@@ -3,3 +3,5 @@ pub mod Clauses
 pub mod Ends
 pub mod Laws
 pub mod Skips
+pub mod Loops
+pub mod Whole
