@@ -1,8 +1,8 @@
 -- Forms that skip are lawful.
 use Rattle.std.proofs.Common.{◌≡◌, ℕ, Bool, true, false, ◌+◌, ◌≤◌, ◌<◌, List, [], ◌∷◌, ◌++◌, length, Result, Ok, Err, refl, sym, ap, subst, ◌∙◌, arith, bytes_eq, ◌&&◌, if◌then◌else◌}
-use Rattle.rt_forms.specs.Lexeme.{Lexeme, At, End, Place, put}
+use Rattle.rt_forms.specs.Lexeme.{Lexeme, At, End, Place, put, first_of}
 use Rattle.rt_forms.specs.Form.{Faults, Form, Read, Which, next_of}
-use Rattle.rt_forms.specs.Reading.{IsUpTo, NoneUpTo, after_first, up_to, next_is, IsUpToPair, NoPairUpTo, after_one, after_pair, up_to_pair, stops, IsBefore, from_first, before}
+use Rattle.rt_forms.specs.Reading.{IsUpTo, NoneUpTo, after_first, up_to, is_next, or_end, IsUpToPair, NoPairUpTo, after_one, after_pair, up_to_pair, IsBefore, from_first, before}
 use Rattle.rt_forms.proofs.Laws.{Lawful, Takes, ok_is}
 
 -- nothing is told but what is left
@@ -75,13 +75,13 @@ never : (b : Bool) → (b && false) ≡ true → ⊥
 never true h = cc
 never false h = cc
 
-pair_here : (a b : List ℕ) (line : ℕ) (word : List ℕ) (ws rest : List Lexeme) → (bytes_eq word a && next_is b ws) ≡ true → after_one ws ≡ rest → (front : List Place) × (At line word ∷ ws ≡ put front rest) × IsUpToPair a b front
+pair_here : (a b : List ℕ) (line : ℕ) (word : List ℕ) (ws rest : List Lexeme) → (bytes_eq word a && is_next b (first_of ws)) ≡ true → after_one ws ≡ rest → (front : List Place) × (At line word ∷ ws ≡ put front rest) × IsUpToPair a b front
 pair_here a b line word [] rest t h = absurd (never (bytes_eq word a) t)
 pair_here a b line word (End last ∷ ws) rest t h = absurd (never (bytes_eq word a) t)
 pair_here a b line word (At next after ∷ ws) rest t h =
     (record { line = line; word = word } ∷ record { line = next; word = after } ∷ [], ap (λ (v : List Lexeme). At line word ∷ At next after ∷ v) h, rw t refl)
 
-pair_later : (a b : List ℕ) (p : Place) (front : List Place) (rest : List Lexeme) → (bytes_eq p.word a && next_is b (put front rest)) ≡ false → IsUpToPair a b front → IsUpToPair a b (p ∷ front)
+pair_later : (a b : List ℕ) (p : Place) (front : List Place) (rest : List Lexeme) → (bytes_eq p.word a && is_next b (first_of (put front rest))) ≡ false → IsUpToPair a b front → IsUpToPair a b (p ∷ front)
 pair_later a b p [] rest t h = absurd h
 pair_later a b p (q ∷ ps) rest t h = rw t h
 
@@ -90,9 +90,9 @@ pair_found f a b [] rest h = absurd cc
 pair_found f a b (End line ∷ ws) rest h = absurd cc
 pair_found {E} f a b (At line word ∷ ws) rest h =
     let p : Place = record { line = line; word = word } in
-    chosen (bytes_eq word a && next_is b ws) (left (after_one ws)) (after_pair f a b ws) (left rest) h ((front : List Place) × (At line word ∷ ws ≡ put front rest) × IsUpToPair a b front)
+    chosen (bytes_eq word a && is_next b (first_of ws)) (left (after_one ws)) (after_pair f a b ws) (left rest) h ((front : List Place) × (At line word ∷ ws ≡ put front rest) × IsUpToPair a b front)
       (λ t q. pair_here a b line word ws rest t (rest_is {E = E} (after_one ws) rest q))
-      (λ t q. let r = pair_found f a b ws rest q in (p ∷ r.0, ap (λ (v : List Lexeme). At line word ∷ v) r.1, pair_later a b p r.0 rest (ap (λ (v : List Lexeme). bytes_eq word a && next_is b v) (sym r.1) ∙ t) r.2))
+      (λ t q. let r = pair_found f a b ws rest q in (p ∷ r.0, ap (λ (v : List Lexeme). At line word ∷ v) r.1, pair_later a b p r.0 rest (ap (λ (v : List Lexeme). bytes_eq word a && is_next b (first_of v)) (sym r.1) ∙ t) r.2))
 
 pair_only : {E : Type 0} (f : Faults E) (a b : List ℕ) (front : List Place) (rest : List Lexeme) → IsUpToPair a b front → after_pair f a b (put front rest) ≡ left rest
 pair_only f a b [] rest h = absurd h
@@ -106,7 +106,7 @@ pair_refused : {E : Type 0} (f : Faults E) (a b : List ℕ) (ws : List Lexeme) (
 pair_refused f a b [] e h = cc
 pair_refused f a b (End line ∷ ws) e h = cc
 pair_refused f a b (At line word ∷ ws) e h =
-    chosen (bytes_eq word a && next_is b ws) (left (after_one ws)) (after_pair f a b ws) (Err e) h (((bytes_eq word a && next_is b ws) ≡ false) × NoPairUpTo f a b ws e)
+    chosen (bytes_eq word a && is_next b (first_of ws)) (left (after_one ws)) (after_pair f a b ws) (Err e) h (((bytes_eq word a && is_next b (first_of ws)) ≡ false) × NoPairUpTo f a b ws e)
       (λ t q. absurd cc)
       (λ t q. (t, pair_refused f a b ws e q))
 
@@ -138,7 +138,7 @@ before_found test (At line word ∷ ws) = go (test word) refl (before_found test
         let p : Place = record { line = line; word = word } in
         (p ∷ r.0, ap (λ (v : List Lexeme). At line word ∷ v) (r.1 ∙ ap (put r.0) (sym same)), (e, subst (λ (v : List Lexeme). IsBefore test r.0 v) (sym same) r.2))
 
-before_stays : (test : List ℕ → Bool) (rest : List Lexeme) → stops test rest ≡ true → from_first test rest ≡ rest
+before_stays : (test : List ℕ → Bool) (rest : List Lexeme) → or_end test (first_of rest) ≡ true → from_first test rest ≡ rest
 before_stays test [] h = refl
 before_stays test (End line ∷ ws) h = refl
 before_stays test (At line word ∷ ws) h = rw h refl

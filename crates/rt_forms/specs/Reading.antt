@@ -2,7 +2,7 @@
 use Rattle.std.specs.Prelude.{◌≡◌, ℕ, List, [], ◌∷◌, ◌++◌, Result, Ok, Err, Option, Some, None, bytes_eq, nat_eq, slice_get, codes, not, ◌||◌, ◌&&◌, Bool, true, false, if◌then◌else◌}
 use Rattle.std.specs.Option.{option_eq}
 use Rattle.rt_forms.specs.Lexeme.{Lexeme, At, End, Place, put, is_end, first_of}
-use Rattle.rt_forms.specs.Form.{Faults, Read, Form, one, admit, Which}
+use Rattle.rt_forms.specs.Form.{Faults, Read, Form, one, admit, look, done, ◌>>=◌, Which}
 
 abbrev pub if_so : {A : Type 0} → Bool → A → Option A
 if_so true a = Some a
@@ -22,6 +22,24 @@ a_name = admit (λ p. if_so (is_name_word p.word) p)
 
 abbrev pub semicolon : {E : Type 0} → Form E (Unit {0})
 semicolon = the_word (codes ";")
+
+-- ---- the next word, which stays
+
+-- it is this one
+abbrev pub is_next : List ℕ → Option Place → Bool
+is_next word None = false
+is_next word (Some p) = bytes_eq p.word word
+
+-- the test is true of it, or none is left
+abbrev pub or_end : (List ℕ → Bool) → Option Place → Bool
+or_end test None = true
+or_end test (Some p) = test p.word
+
+-- whether the next word is this one
+abbrev pub at : {E : Type 0} → List ℕ → Form E Bool
+at word = do
+  w ← look
+  done (is_next word w)
 
 -- ---- words that are skipped
 
@@ -57,12 +75,6 @@ up_to_word word = up_to (λ w. bytes_eq w word)
 abbrev pub rest : {E : Type 0} → Form E (Unit {0})
 rest = up_to_word (codes ";")
 
--- the next word is this one
-abbrev pub next_is : List ℕ → List Lexeme → Bool
-next_is word [] = false
-next_is word (End line ∷ ws) = false
-next_is word (At line w ∷ ws) = bytes_eq w word
-
 -- these words end with this pair, and no earlier two are one
 abbrev pub IsUpToPair : List ℕ → List ℕ → List Place → Type 0
 IsUpToPair a b [] = ⊥
@@ -73,7 +85,7 @@ IsUpToPair a b (p ∷ q ∷ ps) = Which (bytes_eq p.word a && bytes_eq q.word b)
 abbrev pub NoPairUpTo : {E : Type 0} → Faults E → List ℕ → List ℕ → List Lexeme → E → Type 0
 NoPairUpTo f a b [] e = e ≡ f.ended 1
 NoPairUpTo f a b (End line ∷ ws) e = e ≡ f.ended line
-NoPairUpTo f a b (At line word ∷ ws) e = (bytes_eq word a && next_is b ws ≡ false) × NoPairUpTo f a b ws e
+NoPairUpTo f a b (At line word ∷ ws) e = (bytes_eq word a && is_next b (first_of ws) ≡ false) × NoPairUpTo f a b ws e
 
 -- what is behind the next word
 abbrev pub after_one : List Lexeme → List Lexeme
@@ -84,7 +96,7 @@ after_one (At line word ∷ ws) = ws
 abbrev pub after_pair : {E : Type 0} → Faults E → List ℕ → List ℕ → List Lexeme → Read E (Unit {0})
 after_pair f a b [] = Err (f.ended 1)
 after_pair f a b (End line ∷ ws) = Err (f.ended line)
-after_pair f a b (At line word ∷ ws) = if bytes_eq word a && next_is b ws then Ok (tt, after_one ws) else after_pair f a b ws
+after_pair f a b (At line word ∷ ws) = if bytes_eq word a && is_next b (first_of ws) then Ok (tt, after_one ws) else after_pair f a b ws
 
 -- all words up to the first two that are these, and they too
 abbrev pub up_to_pair : {E : Type 0} → List ℕ → List ℕ → Form E (Unit {0})
@@ -94,15 +106,9 @@ up_to_pair a b = record {
   read = λ f ws. after_pair f a b ws;
 }
 
--- no word is left, or the test is true of the next one
-abbrev pub stops : (List ℕ → Bool) → List Lexeme → Bool
-stops test [] = true
-stops test (End line ∷ ws) = true
-stops test (At line word ∷ ws) = test word
-
 -- the test is false of these words, and true of the next one if one is left
 abbrev pub IsBefore : (List ℕ → Bool) → List Place → List Lexeme → Type 0
-IsBefore test [] rest = stops test rest ≡ true
+IsBefore test [] rest = or_end test (first_of rest) ≡ true
 IsBefore test (p ∷ ps) rest = (test p.word ≡ false) × IsBefore test ps rest
 
 abbrev pub from_first : (List ℕ → Bool) → List Lexeme → List Lexeme

@@ -3,7 +3,7 @@ ghost use Rattle.std.specs.Prelude.{◌≡◌, ◌∷◌, ◌≤◌, ◌<◌, le
 ghost use Rattle.rt_base.specs.Tokens.{AllInside};
 ghost use Rattle.rt_forms.specs.Lexeme.{is_end, lexemes, first_of, place, last_line};
 ghost use Rattle.rt_forms.specs.Form.{next as next_form, nothing};
-ghost use Rattle.rt_forms.specs.Reading.{the_word, a_name, is_name_word, semicolon as semicolon_form, rest as rest_form, up_to_word, up_to_pair as up_to_pair_form, next_is, ends_option, from_first, stops, after_one};
+ghost use Rattle.rt_forms.specs.Reading.{the_word, a_name, is_name_word, semicolon as semicolon_form, rest as rest_form, up_to_word, up_to_pair as up_to_pair_form, is_next, or_end, ends_option, from_first, after_one};
 ghost use Rattle.rt_forms.specs.Clauses.{Reads, Looks};
 
 use crate::fault::Fault;
@@ -107,7 +107,7 @@ impl<'a, E> Words<'a, E> {
 
     /// Whether the next word, which stays, is this one.
     pub fn at(&self, word: &[u8]) -> bool
-        ensures { result ≡ next_is word.now self.now }
+        ensures { result ≡ is_next word.now (first_of self.now) }
     {
         match self.peek() {
             None => false,
@@ -136,7 +136,7 @@ impl<'a, E> Words<'a, E> {
 
     /// Whether the next word is `+` or `;`, or none is left.
     fn ends_option(&self) -> bool
-        ensures { result ≡ stops ends_option self.now }
+        ensures { result ≡ or_end ends_option (first_of self.now) }
     {
         match self.peek() {
             None => true,
