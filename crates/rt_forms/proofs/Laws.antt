@@ -121,9 +121,9 @@ lawful_check r = record {
 pub lawful_look : {E : Type 0} → Lawful (look {E = E})
 lawful_look {E} = record {
   found = λ f ws rest a h.
-    let same : (first_of ws, ws) ≡ (a, rest) = ok_is {E = E} (first_of ws, ws) (a, rest) h in
-    let here = ap (λ (p : Option Place × List Lexeme). p.1) same in
-    ([], here, (refl, ap first_of (sym here) ∙ ap (λ (p : Option Place × List Lexeme). p.0) same));
+      let same : (first_of ws, ws) ≡ (a, rest) = ok_is {E = E} (first_of ws, ws) (a, rest) h in
+      let here = ap (λ (p : Option Place × List Lexeme). p.1) same in
+      ([], here, (refl, ap first_of (sym here) ∙ ap (λ (p : Option Place × List Lexeme). p.0) same));
   only = λ f front rest a h. rw (h.0, h.1) refl;
   refused = λ f ws e h. absurd cc;
   refuses = λ f ws e h. absurd h;
@@ -180,23 +180,23 @@ bind_err (Err c) f d e = inl cc
 pub lawful_bind : {E A B : Type 0} (F : Form E A) (G : A → Form E B) → Lawful F → ((a : A) → Lawful (G a)) → Lawful (F >>= G)
 lawful_bind F G l g = record {
   found = λ f ws rest b h.
-    let x = bind_ok (F.read f ws) _ (b, rest) h in
-    let m = l.found f ws x.0.1 x.0.0 x.1 in
-    let r = (g x.0.0).found f x.0.1 rest b x.2 in
-    let P = λ (v : List Lexeme). F.takes m.0 v x.0.0 in
-    (m.0 ++ r.0, m.1 ∙ ap (put m.0) r.1 ∙ sym (put_append m.0 r.0 rest), (x.0.0, m.0, r.0, refl, subst P r.1 m.2, r.2));
+      let x = bind_ok (F.read f ws) _ (b, rest) h in
+      let m = l.found f ws x.0.1 x.0.0 x.1 in
+      let r = (g x.0.0).found f x.0.1 rest b x.2 in
+      let P = λ (v : List Lexeme). F.takes m.0 v x.0.0 in
+      (m.0 ++ r.0, m.1 ∙ ap (put m.0) r.1 ∙ sym (put_append m.0 r.0 rest), (x.0.0, m.0, r.0, refl, subst P r.1 m.2, r.2));
   only = λ f words rest b h.
-    rw (h.3, put_append h.1 h.2 rest, l.only f h.1 (put h.2 rest) h.0 h.4) ((g h.0).only f h.2 rest b h.5);
+      rw (h.3, put_append h.1 h.2 rest, l.only f h.1 (put h.2 rest) h.0 h.4) ((g h.0).only f h.2 rest b h.5);
   refused = λ f ws e h.
-    elim (bind_err (F.read f ws) _ e h) [
-      | inl m ↦ inl (l.refused f ws e m)
-      | inr x ↦ let m = l.found f ws x.0.1 x.0.0 x.1 in inr (x.0.0, m.0, x.0.1, m.1, m.2, (g x.0.0).refused f x.0.1 e x.2)
-    ];
+      elim (bind_err (F.read f ws) _ e h) [
+        | inl m ↦ inl (l.refused f ws e m)
+        | inr x ↦ let m = l.found f ws x.0.1 x.0.0 x.1 in inr (x.0.0, m.0, x.0.1, m.1, m.2, (g x.0.0).refused f x.0.1 e x.2)
+      ];
   refuses = λ f ws e h.
-    elim h [
-      | inl m ↦ rw (l.refuses f ws e m) refl
-      | inr x ↦ rw (x.3, l.only f x.1 x.2 x.0 x.4) ((g x.0).refuses f x.2 e x.5)
-    ];
+      elim h [
+        | inl m ↦ rw (l.refuses f ws e m) refl
+        | inr x ↦ rw (x.3, l.only f x.1 x.2 x.0 x.4) ((g x.0).refuses f x.2 e x.5)
+      ];
 }
 
 pub lawful_choose : {E A : Type 0} (b : Bool) (F G : Form E A) → Lawful F → Lawful G → Lawful (choose b F G)
@@ -223,15 +223,19 @@ pub takes_admit : {E A : Type 0} (meaning : Place → Option A) → Takes (admit
 takes_admit meaning = record { some = λ words rest a h. rw h.1 (omega arith) }
 
 pub takes_bind : {E A B : Type 0} (F : Form E A) (G : A → Form E B) → Takes F → Takes (F >>= G)
-takes_bind F G t = record { some = λ words rest b h.
-    let some = t.some h.1 (put h.2 rest) h.0 h.4 in
-    omega (arith, ap length h.3, length-append h.1 h.2) }
+takes_bind F G t = record {
+  some = λ words rest b h.
+      let some = t.some h.1 (put h.2 rest) h.0 h.4 in
+      omega (arith, ap length h.3, length-append h.1 h.2);
+}
 
 -- what comes first takes a word
 pub consumes_bind : {E A S : Type 0} (F : Form E A) (G : A → Form E (Turn S)) → Takes F → Consumes (F >>= G)
-consumes_bind F G t = record { some = λ words rest u h.
-    let some = t.some h.1 (put h.2 rest) h.0 h.4 in
-    omega (arith, ap length h.3, length-append h.1 h.2) }
+consumes_bind F G t = record {
+  some = λ words rest u h.
+      let some = t.some h.1 (put h.2 rest) h.0 h.4 in
+      omega (arith, ap length h.3, length-append h.1 h.2);
+}
 
 -- a first word by a test
 pub consumes_next : {E S : Type 0} (G : Place → Form E (Turn S)) → Consumes (next >>= G)
@@ -245,9 +249,11 @@ consumes_admit meaning G = consumes_bind (admit meaning) G (takes_admit meaning)
 
 -- what comes later takes a word
 pub consumes_later : {E A S : Type 0} (F : Form E A) (G : A → Form E (Turn S)) → ((a : A) → Consumes (G a)) → Consumes (F >>= G)
-consumes_later F G t = record { some = λ words rest u h.
-    let some = (t h.0).some h.2 rest u h.5 in
-    omega (arith, ap length h.3, length-append h.1 h.2) }
+consumes_later F G t = record {
+  some = λ words rest u h.
+      let some = (t h.0).some h.2 rest u h.5 in
+      omega (arith, ap length h.3, length-append h.1 h.2);
+}
 
 pub consumes_done : {E S : Type 0} (s : S) → Consumes (done {E = E} (Done s))
 consumes_done s = record { some = λ words rest u h. absurd cc }

@@ -95,7 +95,6 @@ until_err {E} {S} {X} {f} {stops} {body} {s} {ws} {s0} {ws0} {e} view new r run 
 
 -- ---- whole texts
 
-
 no_word_is : (ws : List Lexeme) → no_word (first_of ws) ≡ is_end ws
 no_word_is [] = refl
 no_word_is (End line ∷ ws) = refl

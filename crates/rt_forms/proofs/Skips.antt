@@ -31,23 +31,23 @@ up_found f test (End line ∷ ws) rest h = absurd cc
 up_found {E} f test (At line word ∷ ws) rest h =
     let p : Place = record { line = line; word = word } in
     chosen (test word) (left ws) (after_first f test ws) (left rest) h ((front : List Place) × (At line word ∷ ws ≡ put front rest) × IsUpTo test front)
-      (λ e q. (p ∷ [], ap (λ (v : List Lexeme). At line word ∷ v) (rest_is {E = E} ws rest q), rw e refl))
-      (λ e q. let r = up_found f test ws rest q in (p ∷ r.0, ap (λ (v : List Lexeme). At line word ∷ v) r.1, rw e r.2))
+    (λ e q. (p ∷ [], ap (λ (v : List Lexeme). At line word ∷ v) (rest_is {E = E} ws rest q), rw e refl))
+    (λ e q. let r = up_found f test ws rest q in (p ∷ r.0, ap (λ (v : List Lexeme). At line word ∷ v) r.1, rw e r.2))
 
 up_only : {E : Type 0} (f : Faults E) (test : List ℕ → Bool) (front : List Place) (rest : List Lexeme) → IsUpTo test front → after_first f test (put front rest) ≡ left rest
 up_only f test [] rest h = absurd h
 up_only f test (p ∷ ps) rest h =
     picked (test p.word) (ps ≡ []) (IsUpTo test ps) h (after_first f test (put (p ∷ ps) rest) ≡ left rest)
-      (λ e q. rw (e, q) refl)
-      (λ e q. rw e (up_only f test ps rest q))
+    (λ e q. rw (e, q) refl)
+    (λ e q. rw e (up_only f test ps rest q))
 
 up_refused : {E : Type 0} (f : Faults E) (test : List ℕ → Bool) (ws : List Lexeme) (e : E) → after_first f test ws ≡ Err e → NoneUpTo f test ws e
 up_refused f test [] e h = cc
 up_refused f test (End line ∷ ws) e h = cc
 up_refused f test (At line word ∷ ws) e h =
     chosen (test word) (left ws) (after_first f test ws) (Err e) h ((test word ≡ false) × NoneUpTo f test ws e)
-      (λ t q. absurd cc)
-      (λ t q. (t, up_refused f test ws e q))
+    (λ t q. absurd cc)
+    (λ t q. (t, up_refused f test ws e q))
 
 up_refuses : {E : Type 0} (f : Faults E) (test : List ℕ → Bool) (ws : List Lexeme) (e : E) → NoneUpTo f test ws e → after_first f test ws ≡ Err e
 up_refuses f test [] e h = rw h refl
@@ -91,24 +91,24 @@ pair_found f a b (End line ∷ ws) rest h = absurd cc
 pair_found {E} f a b (At line word ∷ ws) rest h =
     let p : Place = record { line = line; word = word } in
     chosen (bytes_eq word a && is_next b (first_of ws)) (left (after_one ws)) (after_pair f a b ws) (left rest) h ((front : List Place) × (At line word ∷ ws ≡ put front rest) × IsUpToPair a b front)
-      (λ t q. pair_here a b line word ws rest t (rest_is {E = E} (after_one ws) rest q))
-      (λ t q. let r = pair_found f a b ws rest q in (p ∷ r.0, ap (λ (v : List Lexeme). At line word ∷ v) r.1, pair_later a b p r.0 rest (ap (λ (v : List Lexeme). bytes_eq word a && is_next b (first_of v)) (sym r.1) ∙ t) r.2))
+    (λ t q. pair_here a b line word ws rest t (rest_is {E = E} (after_one ws) rest q))
+    (λ t q. let r = pair_found f a b ws rest q in (p ∷ r.0, ap (λ (v : List Lexeme). At line word ∷ v) r.1, pair_later a b p r.0 rest (ap (λ (v : List Lexeme). bytes_eq word a && is_next b (first_of v)) (sym r.1) ∙ t) r.2))
 
 pair_only : {E : Type 0} (f : Faults E) (a b : List ℕ) (front : List Place) (rest : List Lexeme) → IsUpToPair a b front → after_pair f a b (put front rest) ≡ left rest
 pair_only f a b [] rest h = absurd h
 pair_only f a b (p ∷ []) rest h = absurd h
 pair_only f a b (p ∷ q ∷ ps) rest h =
     picked (bytes_eq p.word a && bytes_eq q.word b) (ps ≡ []) (IsUpToPair a b (q ∷ ps)) h (after_pair f a b (put (p ∷ q ∷ ps) rest) ≡ left rest)
-      (λ t e. rw (t, e) refl)
-      (λ t e. rw t (pair_only f a b (q ∷ ps) rest e))
+    (λ t e. rw (t, e) refl)
+    (λ t e. rw t (pair_only f a b (q ∷ ps) rest e))
 
 pair_refused : {E : Type 0} (f : Faults E) (a b : List ℕ) (ws : List Lexeme) (e : E) → after_pair f a b ws ≡ Err e → NoPairUpTo f a b ws e
 pair_refused f a b [] e h = cc
 pair_refused f a b (End line ∷ ws) e h = cc
 pair_refused f a b (At line word ∷ ws) e h =
     chosen (bytes_eq word a && is_next b (first_of ws)) (left (after_one ws)) (after_pair f a b ws) (Err e) h (((bytes_eq word a && is_next b (first_of ws)) ≡ false) × NoPairUpTo f a b ws e)
-      (λ t q. absurd cc)
-      (λ t q. (t, pair_refused f a b ws e q))
+    (λ t q. absurd cc)
+    (λ t q. (t, pair_refused f a b ws e q))
 
 pair_refuses : {E : Type 0} (f : Faults E) (a b : List ℕ) (ws : List Lexeme) (e : E) → NoPairUpTo f a b ws e → after_pair f a b ws ≡ Err e
 pair_refuses f a b [] e h = rw h refl
@@ -150,9 +150,9 @@ before_only test (p ∷ ps) rest h = rw h.0 (before_only test ps rest h.1)
 pub lawful_before : {E : Type 0} (test : List ℕ → Bool) → Lawful (before {E = E} test)
 lawful_before {E} test = record {
   found = λ f ws rest a h.
-    let r = before_found test ws in
-    let e = rest_is {E = E} (from_first test ws) rest h in
-    (r.0, r.1 ∙ ap (put r.0) e, rw e at r.2);
+      let r = before_found test ws in
+      let e = rest_is {E = E} (from_first test ws) rest h in
+      (r.0, r.1 ∙ ap (put r.0) e, rw e at r.2);
   only = λ f front rest a h. rw (before_only test front rest h) refl;
   refused = λ f ws e h. absurd cc;
   refuses = λ f ws e h. absurd h;

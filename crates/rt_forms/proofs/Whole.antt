@@ -4,7 +4,7 @@ use Rattle.std.specs.Prelude.{IfOk, IfErr}
 use Rattle.std.proofs.lemmas.List.{append-nil}
 use Rattle.rt_base.specs.declared.token.Token.{Token}
 use Rattle.rt_forms.specs.Lexeme.{Lexeme, At, End, Place, place, put, is_end, ended, places, last_line, lexemes}
-use Rattle.rt_forms.specs.Form.{Faults, Form, whole, Turn, text}
+use Rattle.rt_forms.specs.Form.{Faults, Form, whole, Turn, text, loop, unless, no_word}
 use Rattle.rt_forms.specs.Clauses.{Gives, Looks, IsText, IsRefused, ReadsText}
 use Rattle.rt_forms.proofs.Laws.{Lawful, ok_is}
 
@@ -14,6 +14,9 @@ pub record IsWhole {E A : Type 0} (F : Form E A) : Type 0 where
 
 pub whole_is : {E A : Type 0} (F : Form E A) → IsWhole (whole F)
 whole_is F = record { at_end = λ front rest a h. let e = h.5.4.1 in rw h.5.5.0 at e }
+
+pub text_is : {E S : Type 0} (body : S → Form E (Turn S)) (s : S) → IsWhole (text body s)
+text_is body s = whole_is (loop (unless no_word body) s)
 
 same_place : (p q : Place) → At p.line p.word ≡ At q.line q.word → p ≡ q
 same_place p q h =
@@ -50,8 +53,8 @@ reads_text {E} {X} {Y} f view F l w txt tokens new (Ok x) h =
     record {
       found = found_whole F l w f (places txt tokens) last new (view x) h.0;
       only = λ y t.
-        let p = ok_is {E = E} (y, End last ∷ []) (view x, new) (sym (l.only f (places txt tokens) (End last ∷ []) y t) ∙ h.0) in
-        ap (λ (q : Y × List Lexeme). Ok q.0) p;
+          let p = ok_is {E = E} (y, End last ∷ []) (view x, new) (sym (l.only f (places txt tokens) (End last ∷ []) y t) ∙ h.0) in
+          ap (λ (q : Y × List Lexeme). Ok q.0) p;
       refused = tt;
       refuses = λ e t. let p = sym (l.refuses f (lexemes txt tokens) e t) ∙ h.0 in absurd cc;
     }

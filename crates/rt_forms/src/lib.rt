@@ -4,6 +4,8 @@
 
 mod fault;
 mod names;
+#[cfg(test)]
+mod tests;
 mod words;
 
 pub use fault::Fault;

@@ -152,10 +152,10 @@ impl<'a, E: Fault> Words<'a, E> {
     {
         match self.tokens {
             [] => Err(E::ended(self.last)),
-            [token, rest @ ..] => {
+            [token, behind @ ..] => {
                 let line = token.line;
                 let bytes = &self.text[token.first as usize..token.past as usize];
-                self.tokens = rest;
+                self.tokens = behind;
                 Ok(Word { line, bytes })
             }
         }
