@@ -1,5 +1,5 @@
 //! Words of a text, from left to right.
-ghost use Rattle.std.specs.Prelude.{◌≡◌, ◌∷◌, ◌≤◌, ◌<◌, length, bytes_eq, MatchOption, None, Some, Ok, OnOk};
+ghost use Rattle.std.specs.Prelude.{◌≡◌, ◌+◌, ◌≤◌, ◌<◌, length, bytes_eq, MatchOption, None, Some, Ok, OnOk};
 ghost use Rattle.rt_base.specs.Tokens.{AllInside};
 ghost use Rattle.rt_forms.specs.Lexeme.{is_end, lexemes, first_of, place, last_line};
 ghost use Rattle.rt_forms.specs.Form.{next as next_form, nothing};
@@ -71,7 +71,8 @@ impl<'a, E> Words<'a, E> {
     /// The words of a text with these tokens. Takes no memory.
     pub fn new(text: &'a [u8], tokens: &'a [Token]) -> Words<'a, E>
         requires { AllInside (length text.now) tokens.now }
-        ensures { result ≡ lexemes text.now tokens.now }
+        ensures words { result ≡ lexemes text.now tokens.now }
+        ensures count { length result ≡ length tokens.now + 1 }
     {
         let last = last_line(tokens);
         Words {
