@@ -1,0 +1,12 @@
+-- The end of a list of words.
+use Rattle.std.proofs.Common.{◌≡◌, ℕ, ◌+◌, ◌≤◌, Bool, true, false, List, [], ◌∷◌, ◌++◌, length, refl, arith}
+use Rattle.rt_base.specs.declared.token.Token.{Token}
+use Rattle.rt_forms.specs.Lexeme.{ended, places, is_end, last_line}
+
+pub not_end : (text : List ℕ) (ts : List Token) (last : ℕ) → 1 ≤ length ts → is_end (ended (places text ts) last) ≡ false
+not_end text [] last h = absurd (omega arith)
+not_end text (t ∷ ts) last h = refl
+
+pub length_ended : (text : List ℕ) (ts : List Token) (last : ℕ) → length (ended (places text ts) last) ≡ length ts + 1
+length_ended text [] last = omega arith
+length_ended text (t ∷ ts) last = omega (arith, length_ended text ts last)

@@ -1,0 +1,5 @@
+pub mod Lexeme
+pub mod Form
+pub mod Reading
+pub mod Clauses
+pub mod Names
