@@ -1,5 +1,5 @@
--- Numbers of LEF, DEF and guide texts (LEF/DEF 5.8 Language Reference): an optional sign, digits, and perhaps
--- a point and further digits.
+-- Numbers of LEF, DEF and guide texts: an optional sign, digits, and perhaps a point and further digits. LEF writes
+-- lengths in microns with a point, DEF in whole database units (LEF/DEF 5.8 Language Reference, UNITS of both).
 use Rattle.std.specs.Prelude.{ℕ, ◌≡◌, ◌*◌, ◌^◌, ◌%◌, ◌/◌, Bool, true, false, not, nat_lt, ◌==◌, List, [], ◌++◌, length, Option, Some, None, if◌then◌else◌, Result, Ok, Err, ℤ, pos, neg_ℤ, codes}
 use Rattle.std.specs.Str.Parse.{IsNumeral, digits_value}
 use Rattle.rt_words.specs.declared.number.NumberFault.{NumberFault}

@@ -1,4 +1,4 @@
--- The words of a table. A table has rows of equal length that are filled up with spaces.
+-- The words of a table, whose rows are filled up with spaces to one length.
 use Rattle.std.specs.Prelude.{ℕ, ◌+◌, ◌==◌, ◌≡◌, ◌≢◌, Bool, true, false, not, ◌&&◌, List, [], ◌∷◌, map, bytes_eq, AllPairs, Option, Some, None}
 use Rattle.std.specs.List.{before_first, list_any}
 

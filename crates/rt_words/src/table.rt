@@ -1,4 +1,4 @@
-//! Tables of words.
+//! Tables of words. A row means its bytes before its first space, or all of them where it has none.
 ghost use Rattle.std.specs.Prelude.{◌≡◌, ℕ, ◌↔◌, IsTrue, Contains, bytes_eq, map, position, slice_get, ◌==◌};
 ghost use Rattle.std.specs.List.{list_any, before_first};
 ghost use Rattle.rt_words.specs.Table.{word_of, words_of, AreDistinct, are_distinct, Compares};
@@ -31,11 +31,14 @@ fn find_row(rows: &[[u8; 20]], word: &[u8]) -> Option<usize>
     rows.iter().position(|row| means(row, word))
 }
 
-/// The row that means the word.
+/// The row that means the word, counted from 0; `None` where no row means it. A constant table's
+/// condition computes, so no caller proves anything for it.
 pub fn find<const N: usize>(table: &[[u8; 20]; N], word: &[u8]) -> Option<usize>
     requires { IsTrue (are_distinct (words_of table.now)) }
     ensures found { (k : ℕ) → ((result ≡ Some k) ↔ (slice_get (words_of table.now) k ≡ Some word.now)) }
     ensures none { (result ≡ None) ↔ (¬ Contains (words_of table.now) word.now) }
+
+    // The same for readers, which compute with it: as a place, and as one test for each row.
     ensures place { result ≡ position (bytes_eq word.now) (words_of table.now) }
     ensures compares { Compares word.now 0 (words_of table.now) result }
 {
@@ -48,7 +51,6 @@ fn any_means(rows: &[[u8; 20]], word: &[u8]) -> bool
     rows.iter().any(|row| means(row, word))
 }
 
-#[tactic(auto, using(crate::proofs::Words::any_word))]
 fn all_distinct(rows: &[[u8; 20]]) -> bool
     ensures { result ≡ are_distinct (words_of rows.now) }
 {
