@@ -39,3 +39,6 @@ pub fn order(alloc: Global, design: &Design) -> Result<Vec<u32>, Memory>
     ranks.sort_unstable();
     numbers(alloc, &ranks)
 }
+
+#[cfg(test)]
+mod tests;

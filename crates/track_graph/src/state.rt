@@ -236,3 +236,6 @@ impl State {
         Ok(())
     }
 }
+
+#[cfg(test)]
+mod tests;
