@@ -39,6 +39,10 @@ is_horizontal tech level = unwrap_or (option_map (λ (l : ℕ × Layer). l.1.hor
 abbrev pub width_of : Tech → ℕ → ℤ
 width_of tech level = unwrap_or (option_map (λ (l : ℕ × Layer). l.1.width) (slice_get (levels tech) level)) (pos 0)
 
+-- the name of a level's layer, empty where there is no such level
+abbrev pub layer_name_of : Tech → ℕ → List ℕ
+layer_name_of tech level = unwrap_or (option_map (λ (l : ℕ × Layer). l.1.name) (slice_get (levels tech) level)) []
+
 -- where a point stands along the tracks of a level, and which line it is on
 abbrev pub along : Tech → ℕ → Point → ℤ
 along tech level p = if is_horizontal tech level then p.x else p.y

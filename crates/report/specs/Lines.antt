@@ -1,0 +1,131 @@
+-- The report: ten counts, and then what was skipped, which nets have no path and which have no guide.
+use Rattle.std.specs.Prelude.{ℕ, zero, suc, ◌+◌, decimal, Bool, true, false, ◌&&◌, not, if◌then◌else◌, List, [], ◌∷◌, ◌++◌, codes, length, filter, flat_map, count_by, sum_by}
+use Rattle.std.specs.List.{enumerate_from}
+use Rattle.rt_base.specs.declared.walk.Edge.{Edge}
+use Rattle.rt_base.specs.declared.walk.EdgeKind.{EdgeKind}
+use Rattle.rt_base.specs.declared.walk.EdgeKind.TheVariants.{Along, Via as ByVia}
+use Rattle.rt_base.specs.declared.walk.Entry.{Entry}
+use Rattle.rt_base.specs.declared.walk.EntryKind.{EntryKind}
+use Rattle.rt_base.specs.declared.walk.EntryKind.TheVariants.{Pin as AtPin, Stub, Wire as OnWire}
+use Rattle.rt_base.specs.declared.walk.Vertex.{Vertex}
+use Rattle.rt_base.specs.declared.walk.Walk.{Walk}
+use Rattle.track_graph.specs.declared.design.Design.{Design}
+use Rattle.track_graph.specs.declared.design.Net.{Net}
+use Rattle.track_graph.specs.declared.design.NetKind.{NetKind}
+use Rattle.track_graph.specs.declared.design.NetKind.TheVariants.{Routable, Prewired, Unguided, Single}
+use Rattle.track_graph.specs.declared.history.Block.{Block}
+use Rattle.track_graph.specs.declared.history.Block.TheVariants.{Wire, Stuck, RipFor}
+use Rattle.track_graph.specs.declared.history.NetState.{NetState}
+use Rattle.track_graph.specs.declared.history.State.{State}
+use Rattle.track_graph.specs.Entries.{nearest_point, rect_of}
+use Rattle.track_graph.specs.Histories.{all_joined}
+use Rattle.track_graph.specs.Metal.{distance}
+use Rattle.track_graph.specs.States.{net_state, state_of}
+
+abbrev pub is_routable : NetKind → Bool
+is_routable Routable = true
+is_routable Prewired = false
+is_routable Unguided = false
+is_routable Single = false
+
+abbrev pub is_prewired : NetKind → Bool
+is_prewired Routable = false
+is_prewired Prewired = true
+is_prewired Unguided = false
+is_prewired Single = false
+
+abbrev pub is_unguided : NetKind → Bool
+is_unguided Routable = false
+is_unguided Prewired = false
+is_unguided Unguided = true
+is_unguided Single = false
+
+abbrev pub is_single : NetKind → Bool
+is_single Routable = false
+is_single Prewired = false
+is_single Unguided = false
+is_single Single = true
+
+-- the nets with their numbers, in file order
+abbrev pub numbered : Design → List (ℕ × Net)
+numbered d = enumerate_from 0 d.nets
+
+-- a routable net, all of whose pins are joined, or not
+abbrev pub is_done : State → ℕ × Net → Bool
+is_done s net = is_routable net.1.kind && all_joined (net_state s net.0)
+
+abbrev pub is_open : State → ℕ × Net → Bool
+is_open s net = is_routable net.1.kind && not (all_joined (net_state s net.0))
+
+-- how many nets a block rips
+abbrev pub rips_of : Block → ℕ
+rips_of (Wire n w) = 0
+rips_of (Stuck n) = 0
+rips_of (RipFor n soft ripped w) = length ripped
+
+-- the length of a stub
+abbrev pub kind_wire : Design → ℕ → EntryKind → Vertex → ℕ
+kind_wire d n (AtPin pin) v = 0
+kind_wire d n (Stub pin k) v = distance (nearest_point (rect_of d n pin k) v.point) v.point
+kind_wire d n OnWire v = 0
+
+abbrev pub edge_wire : EdgeKind → Vertex → Vertex → ℕ
+edge_wire Along v w = distance v.point w.point
+edge_wire (ByVia k) v w = 0
+
+abbrev pub path_wire : Vertex → List Edge → ℕ
+path_wire v [] = 0
+path_wire v (e ∷ es) = edge_wire e.kind v e.to + path_wire e.to es
+
+-- the length of a walk along tracks and of its stubs
+abbrev pub walk_wire : Design → ℕ → Walk → ℕ
+walk_wire d n w = kind_wire d n w.start.kind w.start.vertex + path_wire w.start.vertex w.edges + kind_wire d n w.finish.kind w.finish.vertex
+
+abbrev pub is_via : EdgeKind → Bool
+is_via Along = false
+is_via (ByVia k) = true
+
+abbrev pub walk_vias : Walk → ℕ
+walk_vias w = count_by (λ (e : Edge). is_via e.kind) w.edges
+
+abbrev pub net_wire : Design → State → ℕ × Net → ℕ
+net_wire d s net = sum_by (walk_wire d net.0) (net_state s net.0).walks
+
+abbrev pub net_vias : State → ℕ × Net → ℕ
+net_vias s net = sum_by walk_vias (net_state s net.0).walks
+
+-- a word, a space and a number, on a line
+abbrev pub count_line : List ℕ → ℕ → List ℕ
+count_line word n = word ++ codes " " ++ decimal n ++ codes "\n"
+
+-- a word, a space and a name, on a line
+abbrev pub name_line : List ℕ → List ℕ → List ℕ
+name_line word name = word ++ codes " " ++ name ++ codes "\n"
+
+-- nothing where the count is 0
+abbrev pub skipped_line : List ℕ × ℕ → List ℕ
+skipped_line (name, zero) = []
+skipped_line (name, suc n) = codes "skipped-in " ++ name ++ codes " " ++ decimal (suc n) ++ codes "\n"
+
+abbrev pub counts_of : Design → State → List Block → List ℕ
+counts_of d s blocks =
+    count_line (codes "nets") (length d.nets)
+    ++ count_line (codes "joined") (count_by (is_done s) (numbered d))
+    ++ count_line (codes "stuck") (count_by (is_open s) (numbered d))
+    ++ count_line (codes "unguided") (count_by (λ (net : Net). is_unguided net.kind) d.nets)
+    ++ count_line (codes "prewired") (count_by (λ (net : Net). is_prewired net.kind) d.nets)
+    ++ count_line (codes "single") (count_by (λ (net : Net). is_single net.kind) d.nets)
+    ++ count_line (codes "rips") (sum_by rips_of blocks)
+    ++ count_line (codes "wire") (sum_by (net_wire d s) (numbered d))
+    ++ count_line (codes "vias") (sum_by (net_vias s) (numbered d))
+    ++ count_line (codes "skipped") (sum_by (λ (c : List ℕ × ℕ). c.1) d.skipped)
+
+abbrev pub names_of : Design → State → List ℕ
+names_of d s =
+    flat_map skipped_line d.skipped
+    ++ flat_map (λ (net : ℕ × Net). name_line (codes "no-path") net.1.name) (filter (is_open s) (numbered d))
+    ++ flat_map (λ (net : Net). name_line (codes "unguided-net") net.name) (filter (λ (net : Net). is_unguided net.kind) d.nets)
+
+-- of the final state of the journal
+abbrev pub report_text : Design → List Block → List ℕ
+report_text d blocks = let s = state_of d blocks in counts_of d s blocks ++ names_of d s
