@@ -8,7 +8,7 @@ use Rattle.rt_base.specs.declared.walk.Edge.{Edge}
 use Rattle.rt_base.specs.declared.walk.EdgeKind.{EdgeKind}
 use Rattle.rt_base.specs.declared.walk.EdgeKind.TheVariants.{Along, Via as ByVia}
 use Rattle.track_graph.specs.declared.design.Design.{Design}
-use Rattle.track_graph.specs.Levels.{Ground, ground_of, IsVertex, along, line_of, positions_of, layer_no}
+use Rattle.track_graph.specs.Levels.{Ground, IsVertex, along, line_of, positions_of, layer_no}
 use Rattle.track_graph.specs.Guide.{Guide, InGuide, RunsInGuide}
 use Rattle.track_graph.specs.Metal.{Metal, distance, wire_metal, via_metal}
 

@@ -1,10 +1,9 @@
 -- Entries of pins: the vertices in a pin's rectangles, or else stubs to vertices nearby.
-use Rattle.std.specs.Prelude.{◌≡◌, ◌⊎◌, ℕ, ◌+◌, ◌*◌, ◌≤◌, ◌<◌, ◌==◌, ℤ, pos, List, [], ◌∷◌, ◌++◌, if◌then◌else◌, length, slice_get, Some, None, Option, Any, option_map, unsigned_abs, unwrap_or}
+use Rattle.std.specs.Prelude.{◌≡◌, ◌⊎◌, ℕ, ◌*◌, ◌≤◌, ◌==◌, ℤ, pos, List, [], ◌∷◌, ◌++◌, if◌then◌else◌, slice_get, Some, None, Option, Any, option_map, unsigned_abs, unwrap_or}
 use Rattle.std.specs.Int.{int_min, int_max}
 use Rattle.rt_base.specs.Sides.{Sides}
 use Rattle.rt_base.specs.Geometry.{Holds}
 use Rattle.rt_base.specs.declared.geometry.Point.{Point}
-use Rattle.rt_base.specs.declared.tech.LayerNo.{LayerNo}
 use Rattle.rt_base.specs.declared.tech.Tech.{Tech}
 use Rattle.rt_base.specs.declared.walk.Vertex.{Vertex}
 use Rattle.rt_base.specs.declared.walk.Entry.{Entry}

@@ -10,3 +10,5 @@ pub mod Histories
 pub mod Orders
 pub mod Strokes
 pub mod Designs
+pub mod Conditions
+pub mod Journals

@@ -1,5 +1,5 @@
 -- The order in which nets are taken: by half the perimeter of the hull of their pins, then by number.
-use Rattle.std.specs.Prelude.{◌≡◌, ◌⊎◌, ◌↔◌, ℕ, ◌+◌, ◌<◌, List, [], ◌∷◌, ◌++◌, flat_map, fold, map, Contains, AllPairs, unsigned_abs, ℤ, ◌-ℤ◌}
+use Rattle.std.specs.Prelude.{◌≡◌, ◌⊎◌, ◌↔◌, ℕ, ◌+◌, ◌<◌, List, [], ◌∷◌, flat_map, fold, Contains, AllPairs, unsigned_abs, ◌-ℤ◌}
 use Rattle.std.specs.Int.{int_min, int_max}
 use Rattle.rt_base.specs.Sides.{Sides}
 use Rattle.track_graph.specs.declared.design.Design.{Design}

@@ -1,5 +1,5 @@
 -- Walks: edges that follow each other, what they cost, and the shapes that they put down.
-use Rattle.std.specs.Prelude.{◌≡◌, ℕ, ⊤, List, [], ◌∷◌, ◌++◌}
+use Rattle.std.specs.Prelude.{ℕ, ⊤, List, [], ◌∷◌, ◌++◌}
 use Rattle.rt_base.specs.declared.tech.Shape.{Shape}
 use Rattle.rt_base.specs.declared.walk.Vertex.{Vertex}
 use Rattle.rt_base.specs.declared.walk.Edge.{Edge}

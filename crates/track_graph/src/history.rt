@@ -5,9 +5,14 @@ use rt_base::{Point, Seq, Walk};
 #[derive(Debug, Drop)]
 pub enum Block {
     /// A wire of a net, which joins the pin of its finish.
-    Wire { net: u32, walk: Walk },
+    Wire {
+        net: u32,
+        walk: Walk,
+    },
     /// No wire of the net can be found.
-    Stuck { net: u32 },
+    Stuck {
+        net: u32,
+    },
     /// A wire of a net for which other nets lose theirs; the soft walk says which.
     RipFor {
         net: u32,
