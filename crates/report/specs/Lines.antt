@@ -1,6 +1,6 @@
 -- The report: ten counts, and then what was skipped, which nets have no path and which have no guide.
-use Rattle.std.specs.Prelude.{ℕ, zero, suc, ◌+◌, decimal, Bool, true, false, ◌&&◌, not, if◌then◌else◌, List, [], ◌∷◌, ◌++◌, codes, length, filter, flat_map, count_by, sum_by}
-use Rattle.std.specs.List.{enumerate_from}
+use Rattle.std.specs.Prelude.{ℕ, ◌+◌, decimal, Bool, true, false, ◌&&◌, not, if◌then◌else◌, List, [], ◌∷◌, ◌++◌, codes, length, filter, flat_map, count_by, sum_by, ◌==◌}
+use Rattle.std.specs.List.{enumerate_from, zip}
 use Rattle.rt_base.specs.declared.walk.Edge.{Edge}
 use Rattle.rt_base.specs.declared.walk.EdgeKind.{EdgeKind}
 use Rattle.rt_base.specs.declared.walk.EdgeKind.TheVariants.{Along, Via as ByVia}
@@ -46,16 +46,12 @@ is_single Prewired = false
 is_single Unguided = false
 is_single Single = true
 
--- the nets with their numbers, in file order
-abbrev pub numbered : Design → List (ℕ × Net)
-numbered d = enumerate_from 0 d.nets
-
 -- a routable net, all of whose pins are joined, or not
-abbrev pub is_done : State → ℕ × Net → Bool
-is_done s net = is_routable net.1.kind && all_joined (net_state s net.0)
+abbrev pub is_done : Net × NetState → Bool
+is_done (net, state) = is_routable net.kind && all_joined state
 
-abbrev pub is_open : State → ℕ × Net → Bool
-is_open s net = is_routable net.1.kind && not (all_joined (net_state s net.0))
+abbrev pub is_open : Net × NetState → Bool
+is_open (net, state) = is_routable net.kind && not (all_joined state)
 
 -- how many nets a block rips
 abbrev pub rips_of : Block → ℕ
@@ -88,11 +84,12 @@ is_via (ByVia k) = true
 abbrev pub walk_vias : Walk → ℕ
 walk_vias w = count_by (λ (e : Edge). is_via e.kind) w.edges
 
-abbrev pub net_wire : Design → State → ℕ × Net → ℕ
-net_wire d s net = sum_by (walk_wire d net.0) (net_state s net.0).walks
+-- over the standing walks of a net
+abbrev pub net_wire : Design → ℕ × NetState → ℕ
+net_wire d (n, state) = sum_by (walk_wire d n) state.walks
 
-abbrev pub net_vias : State → ℕ × Net → ℕ
-net_vias s net = sum_by walk_vias (net_state s net.0).walks
+abbrev pub net_vias : NetState → ℕ
+net_vias state = sum_by walk_vias state.walks
 
 -- a word, a space and a number, on a line
 abbrev pub count_line : List ℕ → ℕ → List ℕ
@@ -104,28 +101,41 @@ name_line word name = word ++ codes " " ++ name ++ codes "\n"
 
 -- nothing where the count is 0
 abbrev pub skipped_line : List ℕ × ℕ → List ℕ
-skipped_line (name, zero) = []
-skipped_line (name, suc n) = codes "skipped-in " ++ name ++ codes " " ++ decimal (suc n) ++ codes "\n"
+skipped_line (name, n) = if n == 0 then [] else codes "skipped-in " ++ name ++ codes " " ++ decimal n ++ codes "\n"
 
-abbrev pub counts_of : Design → State → List Block → List ℕ
-counts_of d s blocks =
+-- nothing unless the net is to be routed and has a pin that isn't joined
+abbrev pub no_path_line : Net × NetState → List ℕ
+no_path_line (net, state) = if is_open (net, state) then name_line (codes "no-path") net.name else []
+
+-- nothing where the net has a guide or needs none
+abbrev pub unguided_line : Net → List ℕ
+unguided_line net = if is_unguided net.kind then name_line (codes "unguided-net") net.name else []
+
+abbrev pub net_counts : Design → State → List ℕ
+net_counts d s =
     count_line (codes "nets") (length d.nets)
-    ++ count_line (codes "joined") (count_by (is_done s) (numbered d))
-    ++ count_line (codes "stuck") (count_by (is_open s) (numbered d))
+    ++ count_line (codes "joined") (count_by is_done (zip d.nets s.nets))
+    ++ count_line (codes "stuck") (count_by is_open (zip d.nets s.nets))
     ++ count_line (codes "unguided") (count_by (λ (net : Net). is_unguided net.kind) d.nets)
     ++ count_line (codes "prewired") (count_by (λ (net : Net). is_prewired net.kind) d.nets)
     ++ count_line (codes "single") (count_by (λ (net : Net). is_single net.kind) d.nets)
-    ++ count_line (codes "rips") (sum_by rips_of blocks)
-    ++ count_line (codes "wire") (sum_by (net_wire d s) (numbered d))
-    ++ count_line (codes "vias") (sum_by (net_vias s) (numbered d))
+
+abbrev pub wire_counts : Design → State → List Block → List ℕ
+wire_counts d s blocks =
+    count_line (codes "rips") (sum_by rips_of blocks)
+    ++ count_line (codes "wire") (sum_by (net_wire d) (enumerate_from 0 s.nets))
+    ++ count_line (codes "vias") (sum_by net_vias s.nets)
     ++ count_line (codes "skipped") (sum_by (λ (c : List ℕ × ℕ). c.1) d.skipped)
 
-abbrev pub names_of : Design → State → List ℕ
-names_of d s =
+abbrev pub name_lines : Design → State → List ℕ
+name_lines d s =
     flat_map skipped_line d.skipped
-    ++ flat_map (λ (net : ℕ × Net). name_line (codes "no-path") net.1.name) (filter (is_open s) (numbered d))
-    ++ flat_map (λ (net : Net). name_line (codes "unguided-net") net.name) (filter (λ (net : Net). is_unguided net.kind) d.nets)
+    ++ flat_map no_path_line (zip d.nets s.nets)
+    ++ flat_map unguided_line d.nets
 
--- of the final state of the journal
+-- ten counts and the names, of a journal with this final state
+abbrev pub report_of : Design → State → List Block → List ℕ
+report_of d s blocks = net_counts d s ++ wire_counts d s blocks ++ name_lines d s
+
 abbrev pub report_text : Design → List Block → List ℕ
-report_text d blocks = let s = state_of d blocks in counts_of d s blocks ++ names_of d s
+report_text d blocks = report_of d (state_of d blocks) blocks
