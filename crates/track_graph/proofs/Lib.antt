@@ -1,3 +1,7 @@
 mod Lists
 mod Rows
 pub mod StateLemmas
+pub mod GraphLemmas
+pub mod ShapeLemmas
+pub mod EntryLemmas
+pub mod PathLemmas

@@ -151,8 +151,8 @@ abbrev detour : Walk
 detour = record {
   start = record { vertex = at 0 100 100; kind = AtPin 0 };
   edges = by_via 1 100 100 ∷ along 1 100 300 ∷ along 1 100 500 ∷ by_via 0 100 500
-    ∷ along 0 300 500 ∷ along 0 500 500 ∷ along 0 700 500 ∷ along 0 900 500
-    ∷ by_via 1 900 500 ∷ along 1 900 300 ∷ along 1 900 100 ∷ by_via 0 900 100 ∷ [];
+      ∷ along 0 300 500 ∷ along 0 500 500 ∷ along 0 700 500 ∷ along 0 900 500
+      ∷ by_via 1 900 500 ∷ along 1 900 300 ∷ along 1 900 100 ∷ by_via 0 900 100 ∷ [];
   finish = record { vertex = at 0 900 100; kind = AtPin 1 };
 }
 
@@ -210,9 +210,9 @@ outside_gap h =
     elim (Any-cases (BoxHolds (point 400 100)) (0, sides (pos 0) (pos 0) (pos 399) (pos 200)) ((0, sides (pos 401) (pos 0) (pos 1000) (pos 200)) ∷ []) h) [
       | inl box ↦ let right = box.1.right in omega (arith, ints)
       | inr others ↦ elim (Any-cases (BoxHolds (point 400 100)) (0, sides (pos 401) (pos 0) (pos 1000) (pos 200)) [] others) [
-          | inl box ↦ let left = box.1.left in omega (arith, ints)
-          | inr none ↦ Any-none (BoxHolds (point 400 100)) none
-        ]
+        | inl box ↦ let left = box.1.left in omega (arith, ints)
+        | inr none ↦ Any-none (BoxHolds (point 400 100)) none
+      ]
     ]
 
 gap_closed : RunsInGuide gaping 0 (point 300 100) (point 500 100) → ⊥

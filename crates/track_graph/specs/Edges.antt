@@ -12,9 +12,13 @@ use Rattle.track_graph.specs.Levels.{Ground, IsVertex, along, line_of, positions
 use Rattle.track_graph.specs.Guide.{Guide, InGuide, RunsInGuide}
 use Rattle.track_graph.specs.Metal.{Metal, distance, wire_metal, via_metal}
 
+-- no number of a list stands strictly between two
+abbrev pub NoneBetween : List ℤ → ℤ → ℤ → Type 0
+NoneBetween numbers low high = (z : ℤ) → Contains numbers z → low <ℤ z → z <ℤ high → ⊥
+
 -- two different numbers with no position strictly between them
 abbrev pub AreNeighbours : List ℤ → ℤ → ℤ → Type 0
-AreNeighbours positions a b = (a ≢ b) × ((z : ℤ) → Contains positions z → int_min a b <ℤ z → z <ℤ int_max a b → ⊥)
+AreNeighbours positions a b = (a ≢ b) × NoneBetween positions (int_min a b) (int_max a b)
 
 -- neighbouring positions of one track
 pub record IsAlong (g : Ground) (v w : Vertex) : Type 0 where

@@ -71,12 +71,17 @@ rect_of d n pin k = (unwrap_or (slice_get (rects_of d n pin) k) no_metal).1
 abbrev pub piece_metal : Tech → ℕ → Point → Point → List Metal
 piece_metal tech level p q = if distance p q == 0 then [] else wire_metal tech level p q ∷ []
 
--- from the rectangle's nearest point in x and then in y to the vertex, at 4 for each unit
+-- where a stub from p to v turns
+abbrev pub corner_of : Point → Vertex → Point
+corner_of p v = record { x = v.point.x; y = p.y }
+
+-- from p in x and then in y to the vertex
+abbrev pub stub_metal : Tech → Point → Vertex → List Metal
+stub_metal tech p v = piece_metal tech v.level p (corner_of p v) ++ piece_metal tech v.level (corner_of p v) v.point
+
+-- from the rectangle's nearest point, at 4 for each unit
 abbrev pub stub_part : Tech → Sides → Vertex → ℕ × List Metal
-stub_part tech s v =
-    let p = nearest_point s v.point in
-    let corner : Point = record { x = v.point.x; y = p.y } in
-    (4 * distance p v.point, piece_metal tech v.level p corner ++ piece_metal tech v.level corner v.point)
+stub_part tech s v = let p = nearest_point s v.point in (4 * distance p v.point, stub_metal tech p v)
 
 abbrev pub entry_kind_part : Design → ℕ → EntryKind → Vertex → ℕ × List Metal
 entry_kind_part d n (AtPin pin) v = (0, [])

@@ -56,6 +56,9 @@ via_level_name tech k = first_level_name (levels tech) (via_rects tech k)
 abbrev pub via_name_of : Tech → ℕ → List ℕ
 via_name_of tech k = unwrap_or (option_map (λ (v : Via). v.name) (slice_get tech.vias k)) []
 
--- rectangles of a net's wires, as shapes
+-- a rectangle of a net's wires, as a shape
+abbrev pub shape_of : ℕ → Metal → Shape
+shape_of n m = record { layer = m.0; rect = m.1; owner = OfNet n; fixed = false }
+
 abbrev pub shapes_of : ℕ → List Metal → List Shape
-shapes_of n metal = map (λ (m : Metal). record { layer = m.0; rect = m.1; owner = OfNet n; fixed = false }) metal
+shapes_of n metal = map (shape_of n) metal

@@ -14,7 +14,7 @@ use Rattle.track_graph.specs.declared.design.Design.{Design}
 use Rattle.track_graph.specs.declared.history.Stroke.{Stroke}
 use Rattle.track_graph.specs.declared.history.Stroke.TheVariants.{Run, Via as ViaAt}
 use Rattle.track_graph.specs.Metal.{distance}
-use Rattle.track_graph.specs.Entries.{nearest_point, rect_of}
+use Rattle.track_graph.specs.Entries.{nearest_point, corner_of, rect_of}
 
 -- a run, or nothing where its ends are one point
 abbrev pub run_between : ℕ → Point → Point → List Stroke
@@ -24,8 +24,7 @@ run_between level a b = if distance a b == 0 then [] else Run level a b ∷ []
 abbrev pub stub_strokes : Sides → Vertex → List Stroke
 stub_strokes s v =
     let p = nearest_point s v.point in
-    let corner : Point = record { x = v.point.x; y = p.y } in
-    run_between v.level p corner ++ run_between v.level corner v.point
+    run_between v.level p (corner_of p v) ++ run_between v.level (corner_of p v) v.point
 
 abbrev pub entry_kind_strokes : Design → ℕ → EntryKind → Vertex → List Stroke
 entry_kind_strokes d n (AtPin pin) v = []

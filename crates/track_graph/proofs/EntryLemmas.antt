@@ -1,0 +1,75 @@
+-- Entries of a design: their pins, their rectangles and their vertices.
+use Rattle.std.proofs.Common.{◌≡◌, ℕ, ◌^◌, ◌<◌, ◌≤◌, List, [], length, get_or, Option, Some, None, option_map, unwrap_or, slice_get, All, Contains, ⊎_elim, refl, sym, subst, ◌∙◌, arith}
+use Rattle.std.proofs.lemmas.List.Elements.{All-contains}
+use Rattle.std.proofs.lemmas.Option.{slice_get_within, slice_get-get_or, get_or_from_slice_get}
+use Rattle.rt_base.specs.Sides.{Sides}
+use Rattle.rt_base.specs.declared.geometry.Point.{Point}
+use Rattle.rt_base.specs.declared.walk.Entry.{Entry}
+use Rattle.rt_base.specs.declared.walk.EntryKind.TheVariants.{Stub, Wire as OnWire}
+use Rattle.track_graph.specs.declared.design.Design.{Design}
+use Rattle.track_graph.specs.declared.design.Net.{Net}
+use Rattle.track_graph.specs.declared.design.Pin.{Pin}
+use Rattle.track_graph.specs.Designs.{IsPointWithin, AreSidesWithin, IsMetal, KindFits, FitsPin, IsPin, IsNet, IsDesign}
+use Rattle.track_graph.specs.Entries.{nearest_point, pins_of, entries_of, rects_of, rect_of, no_metal}
+use Rattle.track_graph.specs.Levels.{ground_of, IsVertex}
+use Rattle.track_graph.specs.Metal.{Metal, distance}
+use Rattle.track_graph.specs.NetWalks.{IsNetEntry}
+use Rattle.track_graph.proofs.ShapeLemmas.{within-min, within-max, vertex_within, distance_within}
+
+-- what holds of each element holds of the one that is read
+All-slice_get : {X : Type 0} (P : X → Type 0) (xs : List X) (k : ℕ) (x : X) → All P xs → slice_get xs k ≡ Some x → P x
+All-slice_get P xs k x all at = subst P (get_or_from_slice_get xs k x x at) (all k x (slice_get_within xs k x at))
+
+pin_ok : (d : Design) (n pin : ℕ) (p : Pin) → IsDesign d → slice_get (pins_of d n) pin ≡ Some p → IsPin (ground_of d) pin p
+pin_ok d n pin p ok at = by_net (slice_get d.nets n) refl at
+  where
+    by_net : (o : Option Net) → slice_get d.nets n ≡ o → slice_get (unwrap_or (option_map (λ (net : Net). net.pins) o) []) pin ≡ Some p → IsPin (ground_of d) pin p
+    by_net None e h = cc
+    by_net (Some net) e h = (All-slice_get (IsNet (ground_of d)) d.nets n net ok.nets e).pins pin p h
+
+-- an entry of a pin fits that pin
+pub pin_entry-fits : (d : Design) (n pin : ℕ) (e : Entry) → IsDesign d → Contains (entries_of d n pin) e → FitsPin (ground_of d) pin (rects_of d n pin) e
+pin_entry-fits d n pin e ok h = by_pin (slice_get (pins_of d n) pin) refl h
+  where
+    by_pin : (o : Option Pin) → slice_get (pins_of d n) pin ≡ o → Contains (unwrap_or (option_map (λ (p : Pin). p.entries) o) []) e → FitsPin (ground_of d) pin (unwrap_or (option_map (λ (p : Pin). p.rects) o) []) e
+    by_pin None at h = absurd (omega (arith, h.1))
+    by_pin (Some p) at h = All-contains (FitsPin (ground_of d) pin p.rects) p.entries e (pin_ok d n pin p ok at).entries h
+
+-- an entry of a net stands at a vertex
+pub entry_vertex : (d : Design) (n : ℕ) (e : Entry) → IsDesign d → IsNetEntry d n e → IsVertex (ground_of d) e.vertex
+entry_vertex d n e ok h = ⊎_elim
+    (λ (of_pin : (pin : ℕ) × Contains (entries_of d n pin) e). (pin_entry-fits d n of_pin.0 e ok of_pin.1).vertex)
+    (λ (on_wire : (e.kind ≡ OnWire) × IsVertex (ground_of d) e.vertex). on_wire.1)
+    h
+
+-- the rectangle of a stub is one of its pin's
+pub stub_rect-exists : (d : Design) (n : ℕ) (e : Entry) (pin k : ℕ) → IsDesign d → IsNetEntry d n e → e.kind ≡ Stub pin k → k < length (rects_of d n pin)
+stub_rect-exists d n e pin k ok h is = ⊎_elim
+    (λ (of_pin : (q : ℕ) × Contains (entries_of d n q) e).
+    let fits : KindFits of_pin.0 (rects_of d n of_pin.0) e.kind = (pin_entry-fits d n of_pin.0 e ok of_pin.1).kind in
+    let both : (pin ≡ of_pin.0) × (k < length (rects_of d n of_pin.0)) = rw is at fits in
+    rw both.0 both.1)
+    (λ (on_wire : (e.kind ≡ OnWire) × IsVertex (ground_of d) e.vertex). absurd (differ pin k (sym is ∙ on_wire.0)))
+    h
+  where
+    differ : (pin k : ℕ) → Stub pin k ≡ OnWire → ⊥
+    differ pin k h = cc
+
+-- a pin's rectangles are in range
+pub rect_within : (d : Design) (n pin k : ℕ) → IsDesign d → k < length (rects_of d n pin) → AreSidesWithin (2 ^ 32) (rect_of d n pin k)
+rect_within d n pin k ok h = by_pin (slice_get (pins_of d n) pin) refl h
+  where
+    by_pin : (o : Option Pin) → slice_get (pins_of d n) pin ≡ o → k < length (unwrap_or (option_map (λ (p : Pin). p.rects) o) []) → AreSidesWithin (2 ^ 32) (unwrap_or (slice_get (unwrap_or (option_map (λ (p : Pin). p.rects) o) []) k) no_metal).1
+    by_pin None at h = absurd (omega arith)
+    by_pin (Some p) at h =
+        let m : Metal = get_or p.rects k no_metal in
+        let is : slice_get p.rects k ≡ Some m = slice_get-get_or p.rects k no_metal h in
+        rw is (All-slice_get (IsMetal d.tech) p.rects k m (pin_ok d n pin p ok at).rects is).sides
+
+pub nearest_point_within : (m : ℕ) (s : Sides) (p : Point) → AreSidesWithin m s → IsPointWithin m p → IsPointWithin m (nearest_point s p)
+nearest_point_within m s p hs hp = (within-max m s.xl _ hs.0 (within-min m s.xh p.x hs.2 hp.0), within-max m s.yl _ hs.1 (within-min m s.yh p.y hs.3 hp.1))
+
+pub stub_distance : (d : Design) (n : ℕ) (e : Entry) (pin k : ℕ) → IsDesign d → IsNetEntry d n e → e.kind ≡ Stub pin k → distance (nearest_point (rect_of d n pin k) e.vertex.point) e.vertex.point ≤ 2 ^ 34
+stub_distance d n e pin k ok h is =
+    let at : IsPointWithin (2 ^ 32) e.vertex.point = vertex_within d e.vertex ok (entry_vertex d n e ok h) in
+    distance_within (nearest_point (rect_of d n pin k) e.vertex.point) e.vertex.point (nearest_point_within (2 ^ 32) (rect_of d n pin k) e.vertex.point (rect_within d n pin k ok (stub_rect-exists d n e pin k ok h is)) at) at
