@@ -1,6 +1,7 @@
 -- Written wiring and the routed DEF (DEF 5.8, NETS: regularWiring).
 use Rattle.std.specs.Prelude.{ℕ, ◌+◌, List, [], ◌∷◌, ◌++◌, codes, drop, flat_map, slice_range}
 use Rattle.rt_text.specs.Point.{point_text}
+use Rattle.rt_base.specs.declared.geometry.Point.{Point}
 use Rattle.rt_base.specs.declared.tech.Tech.{Tech}
 use Rattle.track_graph.specs.declared.design.Design.{Design}
 use Rattle.track_graph.specs.declared.design.Net.{Net}
@@ -12,10 +13,18 @@ use Rattle.track_graph.specs.Metal.{via_level_name, via_name_of}
 use Rattle.track_graph.specs.States.{net_state}
 use Rattle.track_graph.specs.Strokes.{walk_strokes}
 
--- `layer ( x y ) ( x y )`, or `layer ( x y ) via` with the via's lower routing layer
+-- `layer ( x y ) ( x y )`
+abbrev pub run_text : List ℕ → Point → Point → List ℕ
+run_text layer a b = layer ++ codes " " ++ point_text a.x a.y ++ codes " " ++ point_text b.x b.y
+
+-- `layer ( x y ) via`
+abbrev pub via_text : List ℕ → Point → List ℕ → List ℕ
+via_text layer p name = layer ++ codes " " ++ point_text p.x p.y ++ codes " " ++ name
+
+-- a run on its level's layer, or a via with the via's lower routing layer
 abbrev pub stroke_text : Tech → Stroke → List ℕ
-stroke_text tech (Run level a b) = layer_name_of tech level ++ codes " " ++ point_text a.x a.y ++ codes " " ++ point_text b.x b.y
-stroke_text tech (ViaAt k p) = via_level_name tech k ++ codes " " ++ point_text p.x p.y ++ codes " " ++ via_name_of tech k
+stroke_text tech (Run level a b) = run_text (layer_name_of tech level) a b
+stroke_text tech (ViaAt k p) = via_text (via_level_name tech k) p (via_name_of tech k)
 
 -- each on a line of its own, behind `NEW`
 abbrev pub further_text : Tech → Stroke → List ℕ

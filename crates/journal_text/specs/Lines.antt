@@ -43,24 +43,37 @@ abbrev pub stroke_line : Tech → Stroke → List ℕ
 stroke_line tech (Run level a b) = line (codes "run " ++ place_text b)
 stroke_line tech (ViaAt k p) = line (codes "via " ++ via_name_of tech k)
 
+abbrev pub entry_line : List ℕ → Tech → Entry → List ℕ
+entry_line word tech e = line (word ++ entry_text tech e)
+
 -- a line `from` entry, a line for each stroke of the edges, and a line `to` entry
 abbrev pub walk_lines : Tech → Walk → List ℕ
 walk_lines tech w =
-    line (codes "from " ++ entry_text tech w.start)
+    entry_line (codes "from ") tech w.start
     ++ flat_map (stroke_line tech) (path_strokes w.start.vertex w.edges)
-    ++ line (codes "to " ++ entry_text tech w.finish)
+    ++ entry_line (codes "to ") tech w.finish
+
+abbrev pub net_line : List ℕ → Design → ℕ → List ℕ
+net_line word d n = line (word ++ net_name_of d n)
 
 -- a space and a net's name
 abbrev pub ripped_text : Design → ℕ → List ℕ
 ripped_text d n = codes " " ++ net_name_of d n
 
+abbrev pub ripped_line : Design → List ℕ → List ℕ
+ripped_line d nets = line (codes "ripped" ++ flat_map (ripped_text d) nets)
+
+abbrev pub wire_lines : Design → ℕ → Walk → List ℕ
+wire_lines d n w = net_line (codes "wire ") d n ++ walk_lines d.tech w ++ line (codes "end")
+
+-- the soft walk, the ripped nets and the walk
+abbrev pub rip_lines : Design → ℕ → Walk → List ℕ → Walk → List ℕ
+rip_lines d n soft ripped w = net_line (codes "rip ") d n ++ walk_lines d.tech soft ++ ripped_line d ripped ++ walk_lines d.tech w ++ line (codes "end")
+
 abbrev pub block_lines : Design → Block → List ℕ
-block_lines d (Wire n w) = line (codes "wire " ++ net_name_of d n) ++ walk_lines d.tech w ++ line (codes "end")
-block_lines d (Stuck n) = line (codes "stuck " ++ net_name_of d n)
-block_lines d (RipFor n soft ripped w) =
-    line (codes "rip " ++ net_name_of d n) ++ walk_lines d.tech soft
-    ++ line (codes "ripped" ++ flat_map (ripped_text d) ripped)
-    ++ walk_lines d.tech w ++ line (codes "end")
+block_lines d (Wire n w) = wire_lines d n w
+block_lines d (Stuck n) = net_line (codes "stuck ") d n
+block_lines d (RipFor n soft ripped w) = rip_lines d n soft ripped w
 
 abbrev pub journal_lines : Design → List Block → List ℕ
 journal_lines d blocks = line (codes "journal 1") ++ flat_map (block_lines d) blocks

@@ -1,10 +1,8 @@
 //! The journal as a text, a line for each thing: which net got which walk, in which order.
 #![tactic(auto)]
 
-ghost use Rattle.std.specs.Prelude.{◌≡◌, ◌++◌, codes, flat_map, IfOk, OnOk};
-ghost use Rattle.track_graph.specs.Entries.{net_name_of};
-ghost use Rattle.track_graph.specs.Metal.{via_name_of};
-ghost use Rattle.journal_text.specs.Lines.{place_text, vertex_text, kind_text, entry_text, stroke_line, walk_lines, ripped_text, block_lines, journal_lines};
+ghost use Rattle.std.specs.Prelude.{◌≡◌, ◌++◌, flat_map, IfOk, OnOk};
+ghost use Rattle.journal_text.specs.Lines.{place_text, vertex_text, kind_text, entry_text, stroke_line, entry_line, walk_lines, net_line, ripped_text, ripped_line, wire_lines, rip_lines, block_lines, journal_lines};
 
 use rt_base::{Entry, EntryKind, Memory, Point, Tech, Vertex, Walk};
 use rt_text::Text;
@@ -17,7 +15,8 @@ fn place(text: &mut Text, point: Point) -> Result<(), Memory>
 {
     text.integer(point.x)?;
     text.bytes(b" ")?;
-    text.integer(point.y)
+    text.integer(point.y)?;
+    Ok(())
 }
 
 /// `layer x y`.
@@ -84,26 +83,31 @@ fn strokes(text: &mut Text, tech: &Tech, strokes: &[Stroke]) -> Result<(), Memor
     Ok(())
 }
 
+/// A word and an entry, on a line.
+fn entry_line(text: &mut Text, tech: &Tech, word: &[u8], at: &Entry) -> Result<(), Memory>
+    ensures { OnOk result (text.new ≡ text.old ++ entry_line word.now tech.now at.now) }
+{
+    text.bytes(word)?;
+    entry(text, tech, at)?;
+    text.bytes(b"\n")
+}
+
 /// The lines of a walk.
 fn walk(alloc: Global, text: &mut Text, tech: &Tech, walk: &Walk) -> Result<(), Memory>
     ensures { OnOk result (text.new ≡ text.old ++ walk_lines tech.now walk.now) }
 {
     let runs = edge_strokes(alloc, walk.start.vertex, walk.edges.as_slice())?;
-    text.bytes(b"from ")?;
-    entry(text, tech, &walk.start)?;
-    text.bytes(b"\n")?;
+    entry_line(text, tech, b"from ", &walk.start)?;
     strokes(text, tech, &runs)?;
-    text.bytes(b"to ")?;
-    entry(text, tech, &walk.finish)?;
-    text.bytes(b"\n")
+    entry_line(text, tech, b"to ", &walk.finish)?;
+    Ok(())
 }
 
-/// A word, a space and a net's name, on a line.
+/// A word and a net's name, on a line.
 fn net_line(text: &mut Text, design: &Design, word: &[u8], net: u32) -> Result<(), Memory>
-    ensures { OnOk result (text.new ≡ text.old ++ word.now ++ codes " " ++ net_name_of design.now net ++ codes "\n") }
+    ensures { OnOk result (text.new ≡ text.old ++ net_line word.now design.now net) }
 {
     text.bytes(word)?;
-    text.bytes(b" ")?;
     text.bytes(net_name(design, net))?;
     text.bytes(b"\n")
 }
@@ -112,9 +116,62 @@ fn ripped(text: &mut Text, design: &Design, nets: &[u32]) -> Result<(), Memory>
     ensures { OnOk result (text.new ≡ text.old ++ flat_map (ripped_text design.now) nets.now) }
 {
     for net in nets {
-        text.bytes(b" ")?;
-        text.bytes(net_name(design, *net))?;
+        ripped_net(text, design, *net)?;
     }
+    Ok(())
+}
+
+/// A space and a net's name.
+fn ripped_net(text: &mut Text, design: &Design, net: u32) -> Result<(), Memory>
+    ensures { OnOk result (text.new ≡ text.old ++ ripped_text design.now net) }
+{
+    text.bytes(b" ")?;
+    text.bytes(net_name(design, net))
+}
+
+/// `ripped` and the names of the nets, on a line.
+fn ripped_line(text: &mut Text, design: &Design, nets: &[u32]) -> Result<(), Memory>
+    ensures { OnOk result (text.new ≡ text.old ++ ripped_line design.now nets.now) }
+{
+    text.bytes(b"ripped")?;
+    ripped(text, design, nets)?;
+    text.bytes(b"\n")?;
+    Ok(())
+}
+
+/// The lines of a wire of a net.
+fn wire(
+    alloc: Global,
+    text: &mut Text,
+    design: &Design,
+    net: u32,
+    wire: &Walk,
+) -> Result<(), Memory>
+    ensures { OnOk result (text.new ≡ text.old ++ wire_lines design.now net wire.now) }
+{
+    net_line(text, design, b"wire ", net)?;
+    walk(alloc, text, &design.tech, wire)?;
+    text.bytes(b"end\n")?;
+    Ok(())
+}
+
+/// The lines of a wire for which other nets are ripped.
+fn rip(
+    alloc: Global,
+    text: &mut Text,
+    design: &Design,
+    net: u32,
+    soft: &Walk,
+    nets: &[u32],
+    wire: &Walk,
+) -> Result<(), Memory>
+    ensures { OnOk result (text.new ≡ text.old ++ rip_lines design.now net soft.now nets.now wire.now) }
+{
+    net_line(text, design, b"rip ", net)?;
+    walk(alloc, text, &design.tech, soft)?;
+    ripped_line(text, design, nets)?;
+    walk(alloc, text, &design.tech, wire)?;
+    text.bytes(b"end\n")?;
     Ok(())
 }
 
@@ -123,26 +180,14 @@ fn block(alloc: Global, text: &mut Text, design: &Design, block: &Block) -> Resu
     ensures { OnOk result (text.new ≡ text.old ++ block_lines design.now block.now) }
 {
     match block {
-        Block::Wire { net, walk: wire } => {
-            net_line(text, design, b"wire", *net)?;
-            walk(alloc, text, &design.tech, wire)?;
-            text.bytes(b"end\n")
-        }
-        Block::Stuck { net } => net_line(text, design, b"stuck", *net),
+        Block::Wire { net, walk } => wire(alloc, text, design, *net, walk),
+        Block::Stuck { net } => net_line(text, design, b"stuck ", *net),
         Block::RipFor {
             net,
             soft,
-            ripped: nets,
-            walk: wire,
-        } => {
-            net_line(text, design, b"rip", *net)?;
-            walk(alloc, text, &design.tech, soft)?;
-            text.bytes(b"ripped")?;
-            ripped(text, design, nets.as_slice())?;
-            text.bytes(b"\n")?;
-            walk(alloc, text, &design.tech, wire)?;
-            text.bytes(b"end\n")
-        }
+            ripped,
+            walk,
+        } => rip(alloc, text, design, *net, soft, ripped.as_slice(), walk),
     }
 }
 
@@ -165,3 +210,6 @@ pub fn print(alloc: Global, design: &Design, journal: &Journal) -> Result<Vec<u8
     blocks(alloc, &mut text, design, journal.blocks())?;
     Ok(text.into_vec())
 }
+
+#[cfg(test)]
+mod tests;

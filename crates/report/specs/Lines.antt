@@ -101,7 +101,7 @@ name_line word name = word ++ codes " " ++ name ++ codes "\n"
 
 -- nothing where the count is 0
 abbrev pub skipped_line : List ℕ × ℕ → List ℕ
-skipped_line (name, n) = if n == 0 then [] else codes "skipped-in " ++ name ++ codes " " ++ decimal n ++ codes "\n"
+skipped_line (name, n) = if n == 0 then [] else codes "skipped-in " ++ count_line name n
 
 -- nothing unless the net is to be routed and has a pin that isn't joined
 abbrev pub no_path_line : Net × NetState → List ℕ
@@ -111,14 +111,20 @@ no_path_line (net, state) = if is_open (net, state) then name_line (codes "no-pa
 abbrev pub unguided_line : Net → List ℕ
 unguided_line net = if is_unguided net.kind then name_line (codes "unguided-net") net.name else []
 
+abbrev pub route_counts : List Net → List NetState → List ℕ
+route_counts nets states =
+    count_line (codes "nets") (length nets)
+    ++ count_line (codes "joined") (count_by is_done (zip nets states))
+    ++ count_line (codes "stuck") (count_by is_open (zip nets states))
+
+abbrev pub other_counts : List Net → List ℕ
+other_counts nets =
+    count_line (codes "unguided") (count_by (λ (net : Net). is_unguided net.kind) nets)
+    ++ count_line (codes "prewired") (count_by (λ (net : Net). is_prewired net.kind) nets)
+    ++ count_line (codes "single") (count_by (λ (net : Net). is_single net.kind) nets)
+
 abbrev pub net_counts : Design → State → List ℕ
-net_counts d s =
-    count_line (codes "nets") (length d.nets)
-    ++ count_line (codes "joined") (count_by is_done (zip d.nets s.nets))
-    ++ count_line (codes "stuck") (count_by is_open (zip d.nets s.nets))
-    ++ count_line (codes "unguided") (count_by (λ (net : Net). is_unguided net.kind) d.nets)
-    ++ count_line (codes "prewired") (count_by (λ (net : Net). is_prewired net.kind) d.nets)
-    ++ count_line (codes "single") (count_by (λ (net : Net). is_single net.kind) d.nets)
+net_counts d s = route_counts d.nets s.nets ++ other_counts d.nets
 
 abbrev pub wire_counts : Design → State → List Block → List ℕ
 wire_counts d s blocks =

@@ -33,3 +33,6 @@ pub fn report(alloc: Global, design: &Design, journal: &Journal) -> Result<Vec<u
     name_lines(&mut text, design, &state)?;
     Ok(text.into_vec())
 }
+
+#[cfg(test)]
+mod tests;

@@ -1,9 +1,12 @@
 //! The lines of the report.
-ghost use Rattle.std.specs.Prelude.{◌≡◌, ◌++◌, flat_map, length, OnOk};
-ghost use Rattle.std.specs.List.{zip};
-ghost use Rattle.report.specs.Lines.{count_line, name_line, skipped_line, no_path_line, unguided_line, net_counts, wire_counts, name_lines};
+ghost use Rattle.std.specs.Prelude.{◌≡◌, ◌++◌, codes, count_by, flat_map, length, sum_by, OnOk};
+ghost use Rattle.std.specs.List.{enumerate_from, zip};
+ghost use Rattle.report.specs.Lines.{is_done, is_open, rips_of, net_wire, net_vias, count_line, name_line, skipped_line, no_path_line, unguided_line, route_counts, other_counts, net_counts, wire_counts, name_lines};
 
-use crate::counts::{done_count, is_open, is_unguided, open_count, prewired_count, rips, single_count, skipped, unguided_count};
+use crate::counts::{
+    done_count, is_open, is_unguided, open_count, prewired_count, rips, single_count, skipped,
+    unguided_count,
+};
 use crate::wires::{vias, wire};
 use rt_base::{Memory, Name};
 use rt_text::Text;
@@ -37,10 +40,7 @@ fn skipped_line(text: &mut Text, count: &(Name, u32)) -> Result<(), Memory>
         return Ok(());
     }
     text.bytes(b"skipped-in ")?;
-    text.bytes(count.0.bytes())?;
-    text.bytes(b" ")?;
-    text.natural(u64::from(count.1))?;
-    text.bytes(b"\n")
+    count_line(text, count.0.bytes(), u64::from(count.1))
 }
 
 /// Nothing unless the net is to be routed and has a pin that isn't joined.
@@ -91,30 +91,90 @@ fn unguided_lines(text: &mut Text, nets: &[Net]) -> Result<(), Memory>
     Ok(())
 }
 
-/// How many nets there are of each kind.
+fn joined_line(text: &mut Text, nets: &[Net], states: &[NetState]) -> Result<(), Memory>
+    requires { length nets.now ≡ length states.now }
+    ensures { OnOk result (text.new ≡ text.old ++ count_line (codes "joined") (count_by is_done (zip nets.now states.now))) }
+{
+    count_line(text, b"joined", done_count(nets, states) as u64)
+}
+
+fn stuck_line(text: &mut Text, nets: &[Net], states: &[NetState]) -> Result<(), Memory>
+    requires { length nets.now ≡ length states.now }
+    ensures { OnOk result (text.new ≡ text.old ++ count_line (codes "stuck") (count_by is_open (zip nets.now states.now))) }
+{
+    count_line(text, b"stuck", open_count(nets, states) as u64)
+}
+
+fn rips_line(text: &mut Text, blocks: &[Block]) -> Result<(), Memory>
+    ensures { OnOk result (text.new ≡ text.old ++ count_line (codes "rips") (sum_by rips_of blocks.now)) }
+{
+    count_line(text, b"rips", rips(blocks)?)
+}
+
+fn wire_line(text: &mut Text, design: &Design, states: &[NetState]) -> Result<(), Memory>
+    ensures { OnOk result (text.new ≡ text.old ++ count_line (codes "wire") (sum_by (net_wire design.now) (enumerate_from 0 states.now))) }
+{
+    count_line(text, b"wire", wire(design, states)?)
+}
+
+fn vias_line(text: &mut Text, states: &[NetState]) -> Result<(), Memory>
+    ensures { OnOk result (text.new ≡ text.old ++ count_line (codes "vias") (sum_by net_vias states.now)) }
+{
+    count_line(text, b"vias", vias(states)?)
+}
+
+fn all_skipped_line(text: &mut Text, counts: &[(Name, u32)]) -> Result<(), Memory>
+    ensures { OnOk result (text.new ≡ text.old ++ count_line (codes "skipped") (sum_by (λ c. c.1) counts.now)) }
+{
+    count_line(text, b"skipped", skipped(counts)?)
+}
+
+/// How many nets there are, and how many of them are joined or stuck.
+fn route_counts(text: &mut Text, nets: &[Net], states: &[NetState]) -> Result<(), Memory>
+    requires { length nets.now ≡ length states.now }
+    ensures { OnOk result (text.new ≡ text.old ++ route_counts nets.now states.now) }
+{
+    count_line(text, b"nets", nets.len() as u64)?;
+    joined_line(text, nets, states)?;
+    stuck_line(text, nets, states)?;
+    Ok(())
+}
+
+/// How many nets aren't to be routed, by their kinds.
+fn other_counts(text: &mut Text, nets: &[Net]) -> Result<(), Memory>
+    ensures { OnOk result (text.new ≡ text.old ++ other_counts nets.now) }
+{
+    count_line(text, b"unguided", unguided_count(nets) as u64)?;
+    count_line(text, b"prewired", prewired_count(nets) as u64)?;
+    count_line(text, b"single", single_count(nets) as u64)?;
+    Ok(())
+}
+
+/// How many nets there are, in all and of each kind.
 pub fn net_counts(text: &mut Text, design: &Design, state: &State) -> Result<(), Memory>
     requires { length design.now.nets ≡ length state.now.nets }
     ensures { OnOk result (text.new ≡ text.old ++ net_counts design.now state.now) }
 {
     let nets = design.nets.as_slice();
-    let states = state.nets.as_slice();
-    count_line(text, b"nets", nets.len() as u64)?;
-    count_line(text, b"joined", done_count(nets, states) as u64)?;
-    count_line(text, b"stuck", open_count(nets, states) as u64)?;
-    count_line(text, b"unguided", unguided_count(nets) as u64)?;
-    count_line(text, b"prewired", prewired_count(nets) as u64)?;
-    count_line(text, b"single", single_count(nets) as u64)
+    route_counts(text, nets, state.nets.as_slice())?;
+    other_counts(text, nets)
 }
 
 /// Rips, wire, vias and skipped statements.
-pub fn wire_counts(text: &mut Text, design: &Design, state: &State, blocks: &[Block]) -> Result<(), Memory>
+pub fn wire_counts(
+    text: &mut Text,
+    design: &Design,
+    state: &State,
+    blocks: &[Block],
+) -> Result<(), Memory>
     ensures { OnOk result (text.new ≡ text.old ++ wire_counts design.now state.now blocks.now) }
 {
     let states = state.nets.as_slice();
-    count_line(text, b"rips", rips(blocks)?)?;
-    count_line(text, b"wire", wire(design, states)?)?;
-    count_line(text, b"vias", vias(states)?)?;
-    count_line(text, b"skipped", skipped(design.skipped.as_slice())?)
+    rips_line(text, blocks)?;
+    wire_line(text, design, states)?;
+    vias_line(text, states)?;
+    all_skipped_line(text, design.skipped.as_slice())?;
+    Ok(())
 }
 
 /// What was skipped, which nets have no path and which have no guide.

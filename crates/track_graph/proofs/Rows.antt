@@ -29,54 +29,10 @@ use Rattle.track_graph.specs.Searches.{hard_reading, some_conflict, walk_cost}
 use Rattle.track_graph.specs.Strokes.{walk_strokes}
 use Rattle.track_graph.specs.Walks.{walk_shapes_of, end_of}
 use Rattle.track_graph.specs.Guide.{Guide, InGuide, RunsInGuide}
+use Rattle.track_graph.proofs.Chip.{sides, no, tech, at, pin_at, chip, along, by_via, corner}
 use Rattle.track_graph.proofs.Lists.{Any-cases, Any-none, Any-here, Any-there}
 use Rattle.std.proofs.lemmas.Int.{ints}
 use Rattle.std.proofs.lemmas.Bool.{cases_lt}
-
--- ---- the chip
-
-abbrev sides : ℤ → ℤ → ℤ → ℤ → Sides
-sides xl yl xh yh = record { xl = xl; yl = yl; xh = xh; yh = yh }
-
-abbrev no : ℕ → LayerNo
-no n = record { 0 = n }
-
-abbrev layer : List ℕ → Bool → Bool → Layer
-layer name routing horizontal = record { name = name; routing = routing; horizontal = horizontal; width = pos 100; spacing = pos 100; table = record { lengths = []; rows = [] } }
-
-abbrev pad : Sides
-pad = sides (negsuc 49) (negsuc 49) (pos 50) (pos 50)
-
-abbrev via : Via
-via = record { name = 86 ∷ []; usable = true; rects = (no 0, pad) ∷ (no 1, sides (negsuc 24) (negsuc 24) (pos 25) (pos 25)) ∷ (no 2, pad) ∷ [] }
-
-abbrev tech : Tech
-tech = record { layers = layer (77 ∷ 49 ∷ []) true true ∷ layer (67 ∷ []) false false ∷ layer (77 ∷ 50 ∷ []) true false ∷ []; vias = via ∷ [] }
-
-abbrev lines : List ℤ
-lines = pos 100 ∷ pos 300 ∷ pos 500 ∷ pos 700 ∷ pos 900 ∷ pos 1100 ∷ pos 1300 ∷ pos 1500 ∷ pos 1700 ∷ pos 1900 ∷ []
-
-abbrev die : Sides
-die = sides (pos 0) (pos 0) (pos 2000) (pos 2000)
-
-abbrev at : ℕ → ℕ → ℕ → Vertex
-at level x y = record { level = level; point = record { x = pos x; y = pos y } }
-
--- a pin round a vertex
-abbrev pin_at : ℕ → ℕ → ℕ → ℕ → Pin
-pin_at k level x y = record { comp = []; pin = []; rects = []; entries = record { vertex = at level x y; kind = AtPin k } ∷ [] }
-
-abbrev net : List Pin → Net
-net pins = record { name = 97 ∷ []; pins = pins; guide = (0, die) ∷ (1, die) ∷ []; kind = Routable; close = 0 }
-
-abbrev chip : List Pin → List Shape → Design
-chip pins fixed = record { tech = tech; tracks = record { lines = lines ∷ lines ∷ []; largest_step = pos 200 ∷ pos 200 ∷ [] }; grid = record { die = die; tile = pos 6400 }; nets = net pins ∷ []; fixed = fixed; options = record { via = 1000; tile = pos 6400; rips = 3 }; skipped = [] }
-
-abbrev along : ℕ → ℕ → ℕ → Edge
-along level x y = record { kind = Along; to = at level x y }
-
-abbrev by_via : ℕ → ℕ → ℕ → Edge
-by_via level x y = record { kind = ByVia 0; to = at level x y }
 
 abbrev run : ℕ → ℕ → ℕ → ℕ → ℕ → Stroke
 run level ax ay bx by_ = Run level (record { x = pos ax; y = pos ay }) (record { x = pos bx; y = pos by_ })
@@ -88,13 +44,6 @@ via_at x y = ViaAt 0 (record { x = pos x; y = pos y })
 
 abbrev corner_chip : Design
 corner_chip = chip (pin_at 0 0 100 100 ∷ pin_at 1 1 900 500 ∷ []) []
-
-abbrev corner : Walk
-corner = record {
-  start = record { vertex = at 0 100 100; kind = AtPin 0 };
-  edges = along 0 300 100 ∷ along 0 500 100 ∷ along 0 700 100 ∷ along 0 900 100 ∷ by_via 1 900 100 ∷ along 1 900 300 ∷ along 1 900 500 ∷ [];
-  finish = record { vertex = at 1 900 500; kind = AtPin 1 };
-}
 
 -- 800 + 1000 + 400
 corner_cost : walk_cost corner_chip (hard_reading corner_chip (first_state corner_chip)) 0 corner ≡ 2200
