@@ -18,6 +18,7 @@ use Rattle.track_graph.specs.Levels.{layer_name_of}
 use Rattle.track_graph.specs.Metal.{via_name_of}
 use Rattle.track_graph.specs.Strokes.{path_strokes}
 
+-- a line with its line feed
 abbrev pub line : List ℕ → List ℕ
 line bytes = bytes ++ codes "\n"
 
@@ -29,6 +30,7 @@ place_text p = signed_decimal p.x ++ codes " " ++ signed_decimal p.y
 abbrev pub vertex_text : Tech → Vertex → List ℕ
 vertex_text tech v = layer_name_of tech v.level ++ codes " " ++ place_text v.point
 
+-- `pin k`, `stub k r` or `wire`
 abbrev pub kind_text : EntryKind → List ℕ
 kind_text (AtPin pin) = codes "pin " ++ decimal pin
 kind_text (Stub pin k) = codes "stub " ++ decimal pin ++ codes " " ++ decimal k
@@ -43,6 +45,7 @@ abbrev pub stroke_line : Tech → Stroke → List ℕ
 stroke_line tech (Run level a b) = line (codes "run " ++ place_text b)
 stroke_line tech (ViaAt k p) = line (codes "via " ++ via_name_of tech k)
 
+-- a word and an entry
 abbrev pub entry_line : List ℕ → Tech → Entry → List ℕ
 entry_line word tech e = line (word ++ entry_text tech e)
 
@@ -53,6 +56,7 @@ walk_lines tech w =
     ++ flat_map (stroke_line tech) (path_strokes w.start.vertex w.edges)
     ++ entry_line (codes "to ") tech w.finish
 
+-- a word and a net's name
 abbrev pub net_line : List ℕ → Design → ℕ → List ℕ
 net_line word d n = line (word ++ net_name_of d n)
 
@@ -60,20 +64,24 @@ net_line word d n = line (word ++ net_name_of d n)
 abbrev pub ripped_text : Design → ℕ → List ℕ
 ripped_text d n = codes " " ++ net_name_of d n
 
+-- `ripped` and the nets' names
 abbrev pub ripped_line : Design → List ℕ → List ℕ
 ripped_line d nets = line (codes "ripped" ++ flat_map (ripped_text d) nets)
 
+-- a line `wire`, the walk and a line `end`
 abbrev pub wire_lines : Design → ℕ → Walk → List ℕ
 wire_lines d n w = net_line (codes "wire ") d n ++ walk_lines d.tech w ++ line (codes "end")
 
--- the soft walk, the ripped nets and the walk
+-- a line `rip`, the soft walk, a line `ripped`, the walk and a line `end`
 abbrev pub rip_lines : Design → ℕ → Walk → List ℕ → Walk → List ℕ
 rip_lines d n soft ripped w = net_line (codes "rip ") d n ++ walk_lines d.tech soft ++ ripped_line d ripped ++ walk_lines d.tech w ++ line (codes "end")
 
+-- the lines of a block
 abbrev pub block_lines : Design → Block → List ℕ
 block_lines d (Wire n w) = wire_lines d n w
 block_lines d (Stuck n) = net_line (codes "stuck ") d n
 block_lines d (RipFor n soft ripped w) = rip_lines d n soft ripped w
 
+-- a line `journal 1` and the blocks in order
 abbrev pub journal_lines : Design → List Block → List ℕ
 journal_lines d blocks = line (codes "journal 1") ++ flat_map (block_lines d) blocks

@@ -22,24 +22,28 @@ use Rattle.track_graph.specs.Histories.{all_joined}
 use Rattle.track_graph.specs.Metal.{distance}
 use Rattle.track_graph.specs.States.{net_state, state_of}
 
+-- the net is to be routed
 abbrev pub is_routable : NetKind → Bool
 is_routable Routable = true
 is_routable Prewired = false
 is_routable Unguided = false
 is_routable Single = false
 
+-- the net has wiring already
 abbrev pub is_prewired : NetKind → Bool
 is_prewired Routable = false
 is_prewired Prewired = true
 is_prewired Unguided = false
 is_prewired Single = false
 
+-- the net has no guide
 abbrev pub is_unguided : NetKind → Bool
 is_unguided Routable = false
 is_unguided Prewired = false
 is_unguided Unguided = true
 is_unguided Single = false
 
+-- the net has fewer than two pins
 abbrev pub is_single : NetKind → Bool
 is_single Routable = false
 is_single Prewired = false
@@ -65,10 +69,12 @@ kind_wire d n (AtPin pin) v = 0
 kind_wire d n (Stub pin k) v = distance (nearest_point (rect_of d n pin k) v.point) v.point
 kind_wire d n OnWire v = 0
 
+-- the length of an edge along a track; a via has none
 abbrev pub edge_wire : EdgeKind → Vertex → Vertex → ℕ
 edge_wire Along v w = distance v.point w.point
 edge_wire (ByVia k) v w = 0
 
+-- the length of edges that follow each other from a vertex on
 abbrev pub path_wire : Vertex → List Edge → ℕ
 path_wire v [] = 0
 path_wire v (e ∷ es) = edge_wire e.kind v e.to + path_wire e.to es
@@ -77,17 +83,20 @@ path_wire v (e ∷ es) = edge_wire e.kind v e.to + path_wire e.to es
 abbrev pub walk_wire : Design → ℕ → Walk → ℕ
 walk_wire d n w = kind_wire d n w.start.kind w.start.vertex + path_wire w.start.vertex w.edges + kind_wire d n w.finish.kind w.finish.vertex
 
+-- the edge is a via
 abbrev pub is_via : EdgeKind → Bool
 is_via Along = false
 is_via (ByVia k) = true
 
+-- how many vias a walk has
 abbrev pub walk_vias : Walk → ℕ
 walk_vias w = count_by (λ (e : Edge). is_via e.kind) w.edges
 
--- over the standing walks of a net
+-- the length of the standing walks of a net and of their stubs
 abbrev pub net_wire : Design → ℕ × NetState → ℕ
 net_wire d (n, state) = sum_by (walk_wire d n) state.walks
 
+-- how many vias the standing walks of a net have
 abbrev pub net_vias : NetState → ℕ
 net_vias state = sum_by walk_vias state.walks
 
@@ -111,21 +120,25 @@ no_path_line (net, state) = if is_open (net, state) then name_line (codes "no-pa
 abbrev pub unguided_line : Net → List ℕ
 unguided_line net = if is_unguided net.kind then name_line (codes "unguided-net") net.name else []
 
+-- the nets in all, and of the routable ones those with all pins joined and the others
 abbrev pub route_counts : List Net → List NetState → List ℕ
 route_counts nets states =
     count_line (codes "nets") (length nets)
     ++ count_line (codes "joined") (count_by is_done (zip nets states))
     ++ count_line (codes "stuck") (count_by is_open (zip nets states))
 
+-- the nets of the other kinds
 abbrev pub other_counts : List Net → List ℕ
 other_counts nets =
     count_line (codes "unguided") (count_by (λ (net : Net). is_unguided net.kind) nets)
     ++ count_line (codes "prewired") (count_by (λ (net : Net). is_prewired net.kind) nets)
     ++ count_line (codes "single") (count_by (λ (net : Net). is_single net.kind) nets)
 
+-- how many nets there are, in all and of each kind
 abbrev pub net_counts : Design → State → List ℕ
 net_counts d s = route_counts d.nets s.nets ++ other_counts d.nets
 
+-- ripped nets, lengths and vias of the standing walks, and skipped statements
 abbrev pub wire_counts : Design → State → List Block → List ℕ
 wire_counts d s blocks =
     count_line (codes "rips") (sum_by rips_of blocks)
@@ -133,6 +146,7 @@ wire_counts d s blocks =
     ++ count_line (codes "vias") (sum_by net_vias s.nets)
     ++ count_line (codes "skipped") (sum_by (λ (c : List ℕ × ℕ). c.1) d.skipped)
 
+-- what was skipped, the nets without a path and the nets without a guide, each in file order
 abbrev pub name_lines : Design → State → List ℕ
 name_lines d s =
     flat_map skipped_line d.skipped
@@ -143,5 +157,6 @@ name_lines d s =
 abbrev pub report_of : Design → State → List Block → List ℕ
 report_of d s blocks = net_counts d s ++ wire_counts d s blocks ++ name_lines d s
 
+-- of the final state of a journal
 abbrev pub report_text : Design → List Block → List ℕ
 report_text d blocks = report_of d (state_of d blocks) blocks
