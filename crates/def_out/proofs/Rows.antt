@@ -9,7 +9,7 @@ use Rattle.track_graph.specs.declared.design.NetKind.TheVariants.{Routable}
 use Rattle.track_graph.specs.declared.design.Pin.{Pin}
 use Rattle.track_graph.specs.declared.history.Block.TheVariants.{Wire, Stuck}
 use Rattle.track_graph.specs.States.{state_of}
-use Rattle.track_graph.proofs.Chip.{at, chip_of, corner, from_pin, net_of, no, pin_at, sides}
+use Rattle.track_graph.proofs.Chip.{chip_of, corner, from_pin, net_of, pin_at, stub_pin, stubbed}
 use Rattle.def_out.specs.Wiring.{routed_def}
 
 -- ---- one wire
@@ -18,18 +18,18 @@ abbrev text : List ℕ
 text = codes "VERSION 5.8 ;\nDESIGN top ;\nUNITS DISTANCE MICRONS 1000 ;\nDIEAREA ( 0 0 ) ( 2000 2000 ) ;\nTRACKS Y 100 DO 10 STEP 200 LAYER M1 ;\nTRACKS X 100 DO 10 STEP 200 LAYER M2 ;\nPINS 2 ;\n- p + NET a + LAYER M1 ( -50 -50 ) ( 50 50 ) + PLACED ( 100 100 ) N ;\n- q + NET a + LAYER M2 ( -50 -50 ) ( 50 50 ) + PLACED ( 900 500 ) N ;\nEND PINS\nNETS 1 ;\n- a ( PIN p ) ( PIN q ) ;\nEND NETS\nEND DESIGN\n"
 
 -- its net is closed by the byte 358
-abbrev corner_chip : List Pin → Design
-corner_chip pins = chip_of (net_of (codes "a") Routable 358 pins ∷ []) []
+abbrev text_chip : List Pin → Design
+text_chip pins = chip_of (net_of (codes "a") Routable 358 pins ∷ []) []
 
 abbrev two_pins : List Pin
 two_pins = pin_at 0 0 100 100 ∷ pin_at 1 1 900 500 ∷ []
 
-corner_text : routed_def text (corner_chip two_pins) (state_of (corner_chip two_pins) (Wire 0 corner ∷ []))
+corner_text : routed_def text (text_chip two_pins) (state_of (text_chip two_pins) (Wire 0 corner ∷ []))
     ≡ codes "VERSION 5.8 ;\nDESIGN top ;\nUNITS DISTANCE MICRONS 1000 ;\nDIEAREA ( 0 0 ) ( 2000 2000 ) ;\nTRACKS Y 100 DO 10 STEP 200 LAYER M1 ;\nTRACKS X 100 DO 10 STEP 200 LAYER M2 ;\nPINS 2 ;\n- p + NET a + LAYER M1 ( -50 -50 ) ( 50 50 ) + PLACED ( 100 100 ) N ;\n- q + NET a + LAYER M2 ( -50 -50 ) ( 50 50 ) + PLACED ( 900 500 ) N ;\nEND PINS\nNETS 1 ;\n- a ( PIN p ) ( PIN q ) \n  + ROUTED M1 ( 100 100 ) ( 900 100 )\n    NEW M1 ( 900 100 ) V12\n    NEW M2 ( 900 100 ) ( 900 500 )\n;\nEND NETS\nEND DESIGN\n"
 unfolding digits
 corner_text = refl
 
-stuck_text : routed_def text (corner_chip two_pins) (state_of (corner_chip two_pins) (Stuck 0 ∷ [])) ≡ text
+stuck_text : routed_def text (text_chip two_pins) (state_of (text_chip two_pins) (Stuck 0 ∷ [])) ≡ text
 unfolding digits
 stuck_text = refl
 
@@ -38,17 +38,14 @@ stuck_text = refl
 abbrev spot : Walk
 spot = record { start = from_pin 0 0 300 300; edges = []; finish = from_pin 1 0 300 300 }
 
-spot_text : routed_def text (corner_chip two_pins) (state_of (corner_chip two_pins) (Wire 0 spot ∷ [])) ≡ text
+spot_text : routed_def text (text_chip two_pins) (state_of (text_chip two_pins) (Wire 0 spot ∷ [])) ≡ text
 unfolding digits
 spot_text = refl
 
 -- ---- a stub
 
 abbrev stub_pins : List Pin
-stub_pins = record { comp = []; pin = []; rects = (no 0, sides (pos 150) (pos 150) (pos 160) (pos 160)) ∷ []; entries = record { vertex = at 0 100 100; kind = Stub 0 0 } ∷ [] } ∷ pin_at 1 1 900 500 ∷ []
-
-abbrev stubbed : Walk
-stubbed = record corner { start = record { vertex = at 0 100 100; kind = Stub 0 0 } }
+stub_pins = stub_pin ∷ pin_at 1 1 900 500 ∷ []
 
 abbrev short_text : List ℕ
 short_text = codes "NETS 2 ;\n- a ( PIN p ) ( PIN q ) ;\n- b ( PIN r ) ;\nEND NETS\n"

@@ -1,5 +1,6 @@
 // The wiring of one wire, and the call on a chip without nets.
 ghost use Rattle.std.specs.Prelude.{◌≡◌, []};
+ghost use Rattle.track_graph.specs.Designs.{IsDesign};
 
 use super::*;
 use rt_base::{Grid, Layer, LayerNo, Name, Rect, Seq, SpacingTable, Via};

@@ -9,13 +9,10 @@ use Rattle.track_graph.specs.declared.design.NetKind.TheVariants.{Routable, Prew
 use Rattle.track_graph.specs.declared.design.Pin.{Pin}
 use Rattle.track_graph.specs.declared.history.Block.{Block}
 use Rattle.track_graph.specs.declared.history.Block.TheVariants.{Wire, Stuck, RipFor}
-use Rattle.track_graph.proofs.Chip.{along, at, by_via, chip, chip_of, corner, from_pin, net_of, no, pin_at, sides}
+use Rattle.track_graph.proofs.Chip.{along, chip, chip_of, corner, corner_chip, crossed_blocks, crossed_chip, from_pin, net_of, pin_at, stub_pin, stubbed}
 use Rattle.report.specs.Lines.{report_text}
 
 -- ---- one wire
-
-abbrev corner_chip : Design
-corner_chip = chip (pin_at 0 0 100 100 ∷ pin_at 1 1 900 500 ∷ []) []
 
 corner_report : report_text corner_chip (Wire 0 corner ∷ [])
     ≡ codes "nets 1\njoined 1\nstuck 0\nunguided 0\nprewired 0\nsingle 0\nrips 0\nwire 1200\nvias 1\nskipped 0\n"
@@ -61,12 +58,6 @@ stuck_report = refl
 
 -- ---- a stub of 100 units
 
-abbrev stub_pin : Pin
-stub_pin = record { comp = []; pin = []; rects = (no 0, sides (pos 150) (pos 150) (pos 160) (pos 160)) ∷ []; entries = record { vertex = at 0 100 100; kind = Stub 0 0 } ∷ [] }
-
-abbrev stubbed : Walk
-stubbed = record corner { start = record { vertex = at 0 100 100; kind = Stub 0 0 } }
-
 stub_report : report_text (chip (stub_pin ∷ pin_at 1 1 900 500 ∷ []) []) (Wire 0 stubbed ∷ [])
     ≡ codes "nets 1\njoined 1\nstuck 0\nunguided 0\nprewired 0\nsingle 0\nrips 0\nwire 1300\nvias 1\nskipped 0\n"
 unfolding digits
@@ -74,34 +65,7 @@ stub_report = refl
 
 -- ---- a wire that is ripped for another one, and finds another way
 
-abbrev crossed : Design
-crossed = chip_of (net_of (codes "a") Routable 0 (pin_at 0 1 300 100 ∷ pin_at 1 1 900 100 ∷ []) ∷ net_of (codes "b") Routable 0 (pin_at 0 0 100 100 ∷ pin_at 1 0 1100 100 ∷ []) ∷ []) []
-
-abbrev short : Walk
-short = record {
-  start = from_pin 0 1 300 100;
-  edges = by_via 0 300 100 ∷ along 0 500 100 ∷ along 0 700 100 ∷ along 0 900 100 ∷ by_via 1 900 100 ∷ [];
-  finish = from_pin 1 1 900 100;
-}
-
-abbrev straight : Walk
-straight = record {
-  start = from_pin 0 0 100 100;
-  edges = along 0 300 100 ∷ along 0 500 100 ∷ along 0 700 100 ∷ along 0 900 100 ∷ along 0 1100 100 ∷ [];
-  finish = from_pin 1 0 1100 100;
-}
-
-abbrev round : Walk
-round = record {
-  start = from_pin 0 1 300 100;
-  edges = along 1 300 300 ∷ by_via 0 300 300 ∷ along 0 500 300 ∷ along 0 700 300 ∷ along 0 900 300 ∷ by_via 1 900 300 ∷ along 1 900 100 ∷ [];
-  finish = from_pin 1 1 900 100;
-}
-
-abbrev ripped : List Block
-ripped = Wire 0 short ∷ RipFor 1 straight (0 ∷ []) straight ∷ Wire 0 round ∷ []
-
-ripped_report : report_text crossed ripped
+ripped_report : report_text crossed_chip crossed_blocks
     ≡ codes "nets 2\njoined 2\nstuck 0\nunguided 0\nprewired 0\nsingle 0\nrips 1\nwire 2000\nvias 2\nskipped 0\n"
 unfolding digits
 ripped_report = refl

@@ -9,7 +9,7 @@ use Rattle.rt_base.specs.declared.tech.Via.{Via}
 use Rattle.rt_base.specs.declared.walk.Edge.{Edge}
 use Rattle.rt_base.specs.declared.walk.EdgeKind.TheVariants.{Along, Via as ByVia}
 use Rattle.rt_base.specs.declared.walk.Entry.{Entry}
-use Rattle.rt_base.specs.declared.walk.EntryKind.TheVariants.{Pin as AtPin}
+use Rattle.rt_base.specs.declared.walk.EntryKind.TheVariants.{Pin as AtPin, Stub}
 use Rattle.rt_base.specs.declared.walk.Vertex.{Vertex}
 use Rattle.rt_base.specs.declared.walk.Walk.{Walk}
 use Rattle.track_graph.specs.declared.design.Design.{Design}
@@ -17,6 +17,8 @@ use Rattle.track_graph.specs.declared.design.Net.{Net}
 use Rattle.track_graph.specs.declared.design.NetKind.{NetKind}
 use Rattle.track_graph.specs.declared.design.NetKind.TheVariants.{Routable}
 use Rattle.track_graph.specs.declared.design.Pin.{Pin}
+use Rattle.track_graph.specs.declared.history.Block.{Block}
+use Rattle.track_graph.specs.declared.history.Block.TheVariants.{Wire, RipFor}
 
 abbrev pub sides : ℤ → ℤ → ℤ → ℤ → Sides
 sides xl yl xh yh = record { xl = xl; yl = yl; xh = xh; yh = yh }
@@ -67,10 +69,50 @@ by_via level x y = record { kind = ByVia 0; to = at level x y }
 abbrev pub from_pin : ℕ → ℕ → ℕ → ℕ → Entry
 from_pin k level x y = record { vertex = at level x y; kind = AtPin k }
 
--- from (100, 100) on the lower level to (900, 500) on the upper one
+-- ---- a wire from (100, 100) on the lower level to (900, 500) on the upper one
+
+abbrev pub corner_chip : Design
+corner_chip = chip (pin_at 0 0 100 100 ∷ pin_at 1 1 900 500 ∷ []) []
+
 abbrev pub corner : Walk
 corner = record {
   start = from_pin 0 0 100 100;
   edges = along 0 300 100 ∷ along 0 500 100 ∷ along 0 700 100 ∷ along 0 900 100 ∷ by_via 1 900 100 ∷ along 1 900 300 ∷ along 1 900 500 ∷ [];
   finish = from_pin 1 1 900 500;
 }
+
+-- the same with a stub from the pin's corner (150, 150)
+abbrev pub stub_pin : Pin
+stub_pin = record { comp = []; pin = []; rects = (no 0, sides (pos 150) (pos 150) (pos 160) (pos 160)) ∷ []; entries = record { vertex = at 0 100 100; kind = Stub 0 0 } ∷ [] }
+
+abbrev pub stubbed : Walk
+stubbed = record corner { start = record { vertex = at 0 100 100; kind = Stub 0 0 } }
+
+-- ---- a wire of net a that is ripped for one of net b, and finds another way
+
+abbrev pub crossed_chip : Design
+crossed_chip = chip_of (net_of (codes "a") Routable 0 (pin_at 0 1 300 100 ∷ pin_at 1 1 900 100 ∷ []) ∷ net_of (codes "b") Routable 0 (pin_at 0 0 100 100 ∷ pin_at 1 0 1100 100 ∷ []) ∷ []) []
+
+abbrev pub short_way : Walk
+short_way = record {
+  start = from_pin 0 1 300 100;
+  edges = by_via 0 300 100 ∷ along 0 500 100 ∷ along 0 700 100 ∷ along 0 900 100 ∷ by_via 1 900 100 ∷ [];
+  finish = from_pin 1 1 900 100;
+}
+
+abbrev pub straight_way : Walk
+straight_way = record {
+  start = from_pin 0 0 100 100;
+  edges = along 0 300 100 ∷ along 0 500 100 ∷ along 0 700 100 ∷ along 0 900 100 ∷ along 0 1100 100 ∷ [];
+  finish = from_pin 1 0 1100 100;
+}
+
+abbrev pub way_round : Walk
+way_round = record {
+  start = from_pin 0 1 300 100;
+  edges = along 1 300 300 ∷ by_via 0 300 300 ∷ along 0 500 300 ∷ along 0 700 300 ∷ along 0 900 300 ∷ by_via 1 900 300 ∷ along 1 900 100 ∷ [];
+  finish = from_pin 1 1 900 100;
+}
+
+abbrev pub crossed_blocks : List Block
+crossed_blocks = Wire 0 short_way ∷ RipFor 1 straight_way (0 ∷ []) straight_way ∷ Wire 0 way_round ∷ []

@@ -29,7 +29,7 @@ use Rattle.track_graph.specs.Searches.{hard_reading, some_conflict, walk_cost}
 use Rattle.track_graph.specs.Strokes.{walk_strokes}
 use Rattle.track_graph.specs.Walks.{walk_shapes_of, end_of}
 use Rattle.track_graph.specs.Guide.{Guide, InGuide, RunsInGuide}
-use Rattle.track_graph.proofs.Chip.{sides, no, tech, at, pin_at, chip, along, by_via, corner}
+use Rattle.track_graph.proofs.Chip.{sides, no, tech, at, pin_at, chip, along, by_via, corner, corner_chip, stub_pin, stubbed}
 use Rattle.track_graph.proofs.Lists.{Any-cases, Any-none, Any-here, Any-there}
 use Rattle.std.proofs.lemmas.Int.{ints}
 use Rattle.std.proofs.lemmas.Bool.{cases_lt}
@@ -41,9 +41,6 @@ abbrev via_at : ℕ → ℕ → Stroke
 via_at x y = ViaAt 0 (record { x = pos x; y = pos y })
 
 -- ---- from (100, 100) on the lower level to (900, 500) on the upper one
-
-abbrev corner_chip : Design
-corner_chip = chip (pin_at 0 0 100 100 ∷ pin_at 1 1 900 500 ∷ []) []
 
 -- 800 + 1000 + 400
 corner_cost : walk_cost corner_chip (hard_reading corner_chip (first_state corner_chip)) 0 corner ≡ 2200
@@ -124,14 +121,8 @@ near_corners = refl
 
 -- ---- a stub from the pin's corner (150, 150) in x and then in y
 
-abbrev stub_pin : Pin
-stub_pin = record { comp = []; pin = []; rects = (no 0, sides (pos 150) (pos 150) (pos 160) (pos 160)) ∷ []; entries = record { vertex = at 0 100 100; kind = Stub 0 0 } ∷ [] }
-
 abbrev stub_chip : Design
 stub_chip = chip (stub_pin ∷ pin_at 1 1 900 500 ∷ []) []
-
-abbrev stubbed : Walk
-stubbed = record corner { start = record { vertex = at 0 100 100; kind = Stub 0 0 } }
 
 -- 400 more
 stubbed_cost : walk_cost stub_chip (hard_reading stub_chip (first_state stub_chip)) 0 stubbed ≡ 2600
