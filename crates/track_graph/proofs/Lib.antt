@@ -1,3 +1,4 @@
+pub mod Chip
 mod Lists
 mod Rows
 pub mod StateLemmas

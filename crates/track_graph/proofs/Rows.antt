@@ -14,7 +14,7 @@ use Rattle.rt_base.specs.declared.tech.Via.{Via}
 use Rattle.rt_base.specs.declared.walk.Edge.{Edge}
 use Rattle.rt_base.specs.declared.walk.EdgeKind.TheVariants.{Along, Via as ByVia}
 use Rattle.rt_base.specs.declared.walk.Entry.{Entry}
-use Rattle.rt_base.specs.declared.walk.EntryKind.TheVariants.{Pin as AtPin, Stub}
+use Rattle.rt_base.specs.declared.walk.EntryKind.TheVariants.{Pin as AtPin}
 use Rattle.rt_base.specs.declared.walk.Vertex.{Vertex}
 use Rattle.rt_base.specs.declared.walk.Walk.{Walk}
 use Rattle.track_graph.specs.declared.design.Design.{Design}
@@ -32,54 +32,10 @@ use Rattle.track_graph.specs.Searches.{hard_reading, soft_reading, some_conflict
 use Rattle.track_graph.specs.Strokes.{walk_strokes}
 use Rattle.track_graph.specs.Walks.{walk_shapes_of, end_of}
 use Rattle.track_graph.specs.Guide.{Guide, InGuide, RunsInGuide}
+use Rattle.track_graph.proofs.Chip.{sides, no, tech, at, pin_at, chip, along, by_via, corner, corner_chip, stub_pin, stubbed, crossed_chip, short_way, straight_way}
 use Rattle.track_graph.proofs.Lists.{Any-cases, Any-none, Any-here, Any-there}
 use Rattle.std.proofs.lemmas.Int.{ints}
 use Rattle.std.proofs.lemmas.Bool.{cases_lt}
-
--- ---- the chip
-
-abbrev sides : ℤ → ℤ → ℤ → ℤ → Sides
-sides xl yl xh yh = record { xl = xl; yl = yl; xh = xh; yh = yh }
-
-abbrev layer_number : ℕ → LayerNo
-layer_number n = record { 0 = n }
-
-abbrev layer : List ℕ → Bool → Bool → Layer
-layer name routing horizontal = record { name = name; routing = routing; horizontal = horizontal; width = pos 100; spacing = pos 100; table = record { lengths = []; rows = [] } }
-
-abbrev pad : Sides
-pad = sides (negsuc 49) (negsuc 49) (pos 50) (pos 50)
-
-abbrev via : Via
-via = record { name = 86 ∷ []; usable = true; rects = (layer_number 0, pad) ∷ (layer_number 1, sides (negsuc 24) (negsuc 24) (pos 25) (pos 25)) ∷ (layer_number 2, pad) ∷ [] }
-
-abbrev tech : Tech
-tech = record { layers = layer (77 ∷ 49 ∷ []) true true ∷ layer (67 ∷ []) false false ∷ layer (77 ∷ 50 ∷ []) true false ∷ []; vias = via ∷ [] }
-
-abbrev lines : List ℤ
-lines = pos 100 ∷ pos 300 ∷ pos 500 ∷ pos 700 ∷ pos 900 ∷ pos 1100 ∷ pos 1300 ∷ pos 1500 ∷ pos 1700 ∷ pos 1900 ∷ []
-
-abbrev die : Sides
-die = sides (pos 0) (pos 0) (pos 2000) (pos 2000)
-
-abbrev at : ℕ → ℕ → ℕ → Vertex
-at level x y = record { level = level; point = record { x = pos x; y = pos y } }
-
--- a pin round a vertex
-abbrev pin_at : ℕ → ℕ → ℕ → ℕ → Pin
-pin_at k level x y = record { comp = []; pin = []; rects = []; entries = record { vertex = at level x y; kind = AtPin k } ∷ [] }
-
-abbrev net : List Pin → Net
-net pins = record { name = 97 ∷ []; pins = pins; guide = (0, die) ∷ (1, die) ∷ []; kind = Routable; close = 0 }
-
-abbrev chip : List Pin → List Shape → Design
-chip pins fixed = record { tech = tech; tracks = record { lines = lines ∷ lines ∷ []; largest_step = pos 200 ∷ pos 200 ∷ [] }; grid = record { die = die; tile = pos 6400 }; nets = net pins ∷ []; fixed = fixed; options = record { via = 1000; tile = pos 6400; rips = 3 }; skipped = [] }
-
-abbrev along : ℕ → ℕ → ℕ → Edge
-along level x y = record { kind = Along; to = at level x y }
-
-abbrev by_via : ℕ → ℕ → ℕ → Edge
-by_via level x y = record { kind = ByVia 0; to = at level x y }
 
 abbrev run : ℕ → ℕ → ℕ → ℕ → ℕ → Stroke
 run level ax ay bx end_y = Run level (record { x = pos ax; y = pos ay }) (record { x = pos bx; y = pos end_y })
@@ -88,16 +44,6 @@ abbrev via_at : ℕ → ℕ → Stroke
 via_at x y = ViaAt 0 (record { x = pos x; y = pos y })
 
 -- ---- from (100, 100) on the lower level to (900, 500) on the upper one
-
-abbrev corner_chip : Design
-corner_chip = chip (pin_at 0 0 100 100 ∷ pin_at 1 1 900 500 ∷ []) []
-
-abbrev corner : Walk
-corner = record {
-  start = record { vertex = at 0 100 100; kind = AtPin 0 };
-  edges = along 0 300 100 ∷ along 0 500 100 ∷ along 0 700 100 ∷ along 0 900 100 ∷ by_via 1 900 100 ∷ along 1 900 300 ∷ along 1 900 500 ∷ [];
-  finish = record { vertex = at 1 900 500; kind = AtPin 1 };
-}
 
 -- 800 + 1000 + 400
 corner_cost : walk_cost corner_chip (hard_reading corner_chip (first_state corner_chip)) 0 corner ≡ 2200
@@ -142,7 +88,7 @@ abbrev wire_shapes : ℕ → ℕ → List Shape
 wire_shapes n y = walk_shapes_of flat_chip n (straight y)
 
 abbrev blockage : ℕ → ℕ → Shape
-blockage yl yh = record { layer = layer_number 0; rect = sides (pos 480) (pos yl) (pos 520) (pos yh); owner = Nobody; fixed = true }
+blockage yl yh = record { layer = no 0; rect = sides (pos 480) (pos yl) (pos 520) (pos yh); owner = Nobody; fixed = true }
 
 -- two tracks are 100 units apart, edge to edge
 beside : some_conflict tech (wire_shapes 0 100) (wire_shapes 1 300) ≡ false
@@ -163,8 +109,8 @@ abbrev detour : Walk
 detour = record {
   start = record { vertex = at 0 100 100; kind = AtPin 0 };
   edges = by_via 1 100 100 ∷ along 1 100 300 ∷ along 1 100 500 ∷ by_via 0 100 500
-    ∷ along 0 300 500 ∷ along 0 500 500 ∷ along 0 700 500 ∷ along 0 900 500
-    ∷ by_via 1 900 500 ∷ along 1 900 300 ∷ along 1 900 100 ∷ by_via 0 900 100 ∷ [];
+      ∷ along 0 300 500 ∷ along 0 500 500 ∷ along 0 700 500 ∷ along 0 900 500
+      ∷ by_via 1 900 500 ∷ along 1 900 300 ∷ along 1 900 100 ∷ by_via 0 900 100 ∷ [];
   finish = record { vertex = at 0 900 100; kind = AtPin 1 };
 }
 
@@ -177,7 +123,7 @@ detour_clear = refl
 -- ---- corners: 60 * 60 + 80 * 80 is 100 * 100, and 60 * 60 + 79 * 79 is less
 
 abbrev square : ℕ → ℕ → ℕ → ℕ → ℕ → Shape
-square n xl yl xh yh = record { layer = layer_number 0; rect = sides (pos xl) (pos yl) (pos xh) (pos yh); owner = OfNet n; fixed = true }
+square n xl yl xh yh = record { layer = no 0; rect = sides (pos xl) (pos yl) (pos xh) (pos yh); owner = OfNet n; fixed = true }
 
 far_corners : conflict_of tech (square 0 0 0 100 100) (square 1 160 180 260 280) ≡ false
 far_corners = refl
@@ -187,14 +133,8 @@ near_corners = refl
 
 -- ---- a stub from the pin's corner (150, 150) in x and then in y
 
-abbrev stub_pin : Pin
-stub_pin = record { comp = []; pin = []; rects = (layer_number 0, sides (pos 150) (pos 150) (pos 160) (pos 160)) ∷ []; entries = record { vertex = at 0 100 100; kind = Stub 0 0 } ∷ [] }
-
 abbrev stub_chip : Design
 stub_chip = chip (stub_pin ∷ pin_at 1 1 900 500 ∷ []) []
-
-abbrev stubbed : Walk
-stubbed = record corner { start = record { vertex = at 0 100 100; kind = Stub 0 0 } }
 
 -- 400 more
 stubbed_cost : walk_cost stub_chip (hard_reading stub_chip (first_state stub_chip)) 0 stubbed ≡ 2600
@@ -222,9 +162,9 @@ outside_gap h =
     elim (Any-cases (BoxHolds (point 400 100)) (0, sides (pos 0) (pos 0) (pos 399) (pos 200)) ((0, sides (pos 401) (pos 0) (pos 1000) (pos 200)) ∷ []) h) [
       | inl box ↦ let right = box.1.right in omega (arith, ints)
       | inr others ↦ elim (Any-cases (BoxHolds (point 400 100)) (0, sides (pos 401) (pos 0) (pos 1000) (pos 200)) [] others) [
-          | inl box ↦ let left = box.1.left in omega (arith, ints)
-          | inr none ↦ Any-none (BoxHolds (point 400 100)) none
-        ]
+        | inl box ↦ let left = box.1.left in omega (arith, ints)
+        | inr none ↦ Any-none (BoxHolds (point 400 100)) none
+      ]
     ]
 
 gap_closed : RunsInGuide gaping 0 (point 300 100) (point 500 100) → ⊥
@@ -247,56 +187,33 @@ meeting_open r h =
       | inr after ↦ Any-there (BoxHolds r) (0, sides (pos 0) (pos 0) (pos 399) (pos 200)) ((0, sides (pos 400) (pos 0) (pos 1000) (pos 200)) ∷ []) (Any-here (BoxHolds r) (0, sides (pos 400) (pos 0) (pos 1000) (pos 200)) [] (refl, record { left = omega (arith, ints); right = omega (arith, ints); low = omega (arith, ints); high = omega (arith, ints) }))
     ]
 
--- ---- rips: a lower level of two tracks, on which net 0 crosses the only way of net 1
-
-abbrev two_lines : List ℤ
-two_lines = pos 100 ∷ pos 300 ∷ []
-
-abbrev rip_chip : Design
-rip_chip = record (chip [] []) {
-  tracks = record { lines = two_lines ∷ lines ∷ []; largest_step = pos 200 ∷ pos 200 ∷ [] };
-  nets = net (pin_at 0 1 300 100 ∷ pin_at 1 1 900 100 ∷ []) ∷ net (pin_at 0 0 100 100 ∷ pin_at 1 0 1100 100 ∷ []) ∷ [];
-}
-
-abbrev crossing : Walk
-crossing = record {
-  start = record { vertex = at 1 300 100; kind = AtPin 0 };
-  edges = by_via 0 300 100 ∷ along 0 500 100 ∷ along 0 700 100 ∷ along 0 900 100 ∷ by_via 1 900 100 ∷ [];
-  finish = record { vertex = at 1 900 100; kind = AtPin 1 };
-}
-
-abbrev through : Walk
-through = record {
-  start = record { vertex = at 0 100 100; kind = AtPin 0 };
-  edges = along 0 300 100 ∷ along 0 500 100 ∷ along 0 700 100 ∷ along 0 900 100 ∷ along 0 1100 100 ∷ [];
-  finish = record { vertex = at 0 1100 100; kind = AtPin 1 };
-}
+-- ---- rips: net 0 crosses the way of net 1
 
 abbrev crossed : State
-crossed = state_of rip_chip (Wire 0 crossing ∷ [])
+crossed = state_of crossed_chip (Wire 0 short_way ∷ [])
 
-crossing_cost : walk_cost rip_chip (hard_reading rip_chip (first_state rip_chip)) 0 crossing ≡ 2600
-crossing_cost = refl
+short_way_cost : walk_cost crossed_chip (hard_reading crossed_chip (first_state crossed_chip)) 0 short_way ≡ 2600
+short_way_cost = refl
 
-crossing_forbids : some_conflict tech (walk_shapes_of rip_chip 1 through) (hard_reading rip_chip crossed).forbidding ≡ true
-crossing_forbids = refl
+straight_way_forbidden : some_conflict tech (walk_shapes_of crossed_chip 1 straight_way) (hard_reading crossed_chip crossed).forbidding ≡ true
+straight_way_forbidden = refl
 
 -- each of its five edges conflicts with net 0's wire
-soft_cost : walk_cost rip_chip (soft_reading rip_chip crossed 1) 1 through ≡ 8000
+soft_cost : walk_cost crossed_chip (soft_reading crossed_chip crossed 1) 1 straight_way ≡ 8000
 soft_cost = refl
 
-soft_allows : some_conflict tech (walk_shapes_of rip_chip 1 through) (soft_reading rip_chip crossed 1).forbidding ≡ false
+soft_allows : some_conflict tech (walk_shapes_of crossed_chip 1 straight_way) (soft_reading crossed_chip crossed 1).forbidding ≡ false
 soft_allows = refl
 
-ripped : crossed_from rip_chip 1 through 0 crossed.nets ≡ 0 ∷ []
+ripped : crossed_from crossed_chip 1 straight_way 0 crossed.nets ≡ 0 ∷ []
 ripped = refl
 
 abbrev after_rip : State
-after_rip = state_of rip_chip (Wire 0 crossing ∷ RipFor 1 through (0 ∷ []) through ∷ [])
+after_rip = state_of crossed_chip (Wire 0 short_way ∷ RipFor 1 straight_way (0 ∷ []) straight_way ∷ [])
 
 -- net 0 has only its first pin joined and one rip, and net 1 is joined
 emptied_net_0 : net_state after_rip 0 ≡ record { walks = []; joined = true ∷ false ∷ []; rips = 1; stuck = false }
 emptied_net_0 = refl
 
-joined_net_1 : net_state after_rip 1 ≡ record { walks = through ∷ []; joined = true ∷ true ∷ []; rips = 0; stuck = false }
+joined_net_1 : net_state after_rip 1 ≡ record { walks = straight_way ∷ []; joined = true ∷ true ∷ []; rips = 0; stuck = false }
 joined_net_1 = refl

@@ -47,6 +47,10 @@ pub record IsStubEntry (g : TrackSystem) (pin : ℕ) (rects : List Metal) (e : E
 abbrev pub IsEntry : TrackSystem → ℕ → List Metal → Entry → Type 0
 IsEntry g pin rects e = IsPinEntry g pin rects e ⊎ (((f : Entry) → IsPinEntry g pin rects f → ⊥) × IsStubEntry g pin rects e)
 
+-- the name of a net, empty where there is no such net
+abbrev pub net_name_of : Design → ℕ → List ℕ
+net_name_of d n = unwrap_or (option_map (λ (net : Net). net.name) (slice_get d.nets n)) []
+
 -- the pins, entries and rectangles of a design by number; nothing where there are none
 abbrev pub pins_of : Design → ℕ → List Pin
 pins_of d n = unwrap_or (option_map (λ (net : Net). net.pins) (slice_get d.nets n)) []

@@ -1,14 +1,16 @@
 -- Rectangles of wires and vias on their layers.
-use Rattle.std.specs.Prelude.{ℕ, ◌+◌, ◌/◌, ℤ, pos, ◌+ℤ◌, ◌-ℤ◌, List, [], false, map, slice_get, option_map, unwrap_or, unsigned_abs}
+use Rattle.std.specs.Prelude.{ℕ, ◌+◌, ◌/◌, ℤ, pos, ◌+ℤ◌, ◌-ℤ◌, List, [], ◌∷◌, ◌==◌, if◌then◌else◌, false, map, slice_get, option_map, unwrap_or, unsigned_abs}
+use Rattle.std.specs.List.{list_any}
 use Rattle.rt_base.specs.Sides.{Sides}
 use Rattle.rt_base.specs.declared.geometry.Point.{Point}
+use Rattle.rt_base.specs.declared.tech.Layer.{Layer}
 use Rattle.rt_base.specs.declared.tech.LayerNo.{LayerNo}
 use Rattle.rt_base.specs.declared.tech.Owner.TheVariants.{Net as OfNet}
 use Rattle.rt_base.specs.declared.tech.Shape.{Shape}
 use Rattle.rt_base.specs.declared.tech.Tech.{Tech}
 use Rattle.rt_base.specs.declared.tech.Via.{Via}
 use Rattle.track_graph.specs.Guide.{hull_of}
-use Rattle.track_graph.specs.Levels.{layer_no, width_of}
+use Rattle.track_graph.specs.Levels.{layer_no, levels, width_of}
 
 -- a rectangle on a layer
 abbrev pub Metal : Type 0
@@ -40,6 +42,19 @@ via_rects tech k = unwrap_or (option_map (λ (v : Via). v.rects) (slice_get tech
 -- the rectangles of a via at a point
 abbrev pub via_metal : Tech → ℕ → Point → List Metal
 via_metal tech k p = map (λ (r : Metal). (r.0, moved p r.1)) (via_rects tech k)
+
+-- the name of the first of these levels on which there is a rectangle, empty where there is none
+abbrev pub first_level_name : List (ℕ × Layer) → List Metal → List ℕ
+first_level_name [] rects = []
+first_level_name (l ∷ ls) rects = if list_any (λ (r : Metal). r.0.0 == l.0) rects then l.1.name else first_level_name ls rects
+
+-- the name of the lowest routing layer on which a via has a rectangle
+abbrev pub via_level_name : Tech → ℕ → List ℕ
+via_level_name tech k = first_level_name (levels tech) (via_rects tech k)
+
+-- the name of a via, empty where there is no such via
+abbrev pub via_name_of : Tech → ℕ → List ℕ
+via_name_of tech k = unwrap_or (option_map (λ (v : Via). v.name) (slice_get tech.vias k)) []
 
 -- a rectangle of a net's wires, as a shape
 abbrev pub shape_of : ℕ → Metal → Shape

@@ -1,0 +1,6 @@
+use Rattle.std.proofs.Common.{◌≡◌, sum_by, take}
+use Rattle.report.specs.Lines.{rips_of}
+use Rattle.report.proofs.counts.rips.Given as goal
+
+abbrev pub invariant-loop-block : goal.invariant-loop-block
+invariant-loop-block l = l.total ≡ sum_by rips_of (take l.block-index l.blocks)

@@ -1,0 +1,5 @@
+use Rattle.std.proofs.Common.{◌≡◌, ℕ, List, sum_by, take}
+use Rattle.report.proofs.counts.skipped.Given as goal
+
+abbrev pub invariant-loop-count : goal.invariant-loop-count
+invariant-loop-count l = l.total ≡ sum_by (λ (c : List ℕ × ℕ). c.1) (take l.count-index l.counts)

@@ -1,0 +1,38 @@
+//! The report of a run: ten counts, and then what was skipped, which nets have no path and which
+//! have no guide.
+#![tactic(auto)]
+
+ghost use Rattle.std.specs.Prelude.{◌≡◌, All, IfOk};
+ghost use Rattle.track_graph.specs.Conditions.{IsBlockOf};
+ghost use Rattle.report.specs.Lines.{report_text};
+
+mod counts;
+mod lines;
+mod wires;
+
+use lines::{name_lines, net_counts, wire_counts};
+use rt_base::Memory;
+use rt_text::Text;
+use std::alloc::Global;
+use track_graph::{Design, Journal, fold};
+
+/// The report of the design and a journal of its nets: the lines `nets`, `joined`, `stuck`,
+/// `unguided`, `prewired`, `single`, `rips`, `wire`, `vias` and `skipped`, each with its number, and
+/// then a line `skipped-in NAME n` for each count above 0, a line `no-path NET` for each routable net
+/// with a pin that isn't joined, and a line `unguided-net NET` for each net without a guide, in file
+/// order. Lengths are in DEF database units. The only error is want of memory, which is also the
+/// answer where a total doesn't fit 64 bits.
+pub fn report(alloc: Global, design: &Design, journal: &Journal) -> Result<Vec<u8>, Memory>
+    requires { All (IsBlockOf design.now) journal.now.blocks }
+    ensures { IfOk result (λ text. text.items ≡ report_text design.now journal.now.blocks) }
+{
+    let state = fold(alloc, design, journal.blocks())?;
+    let mut text = Text::new(alloc);
+    net_counts(&mut text, design, &state)?;
+    wire_counts(&mut text, design, &state, journal.blocks())?;
+    name_lines(&mut text, design, &state)?;
+    Ok(text.into_vec())
+}
+
+#[cfg(test)]
+mod tests;

@@ -1,0 +1,156 @@
+//! How long the standing wires are, and how many vias they have.
+ghost use Rattle.std.specs.Prelude.{◌≡◌, ◌+◌, IfOk, sum_by};
+ghost use Rattle.std.specs.List.{enumerate_from};
+ghost use Rattle.track_graph.specs.Entries.{nearest, nearest_point, rect_of};
+ghost use Rattle.track_graph.specs.Metal.{distance};
+ghost use Rattle.report.specs.Lines.{kind_wire, edge_wire, path_wire, walk_wire, walk_vias, net_wire, net_vias, is_via};
+
+use crate::counts::sum;
+use rt_base::{Edge, EdgeKind, Entry, EntryKind, Memory, Point, Rect, Vertex, Walk};
+use track_graph::{Design, NetState};
+
+fn units_between(p: Point, q: Point) -> Result<u64, Memory>
+    ensures { IfOk result (λ n. n ≡ distance p q) }
+{
+    sum(p.x.abs_diff(q.x), p.y.abs_diff(q.y))
+}
+
+/// A rectangle of a pin by its numbers; a point at (0, 0) where there is none.
+fn pin_rect(design: &Design, net: usize, pin: u32, rect: u32) -> Rect
+    ensures { result ≡ rect_of design.now net pin rect }
+{
+    let none = Rect {
+        xl: 0,
+        yl: 0,
+        xh: 0,
+        yh: 0,
+    };
+    let Some(net) = design.nets.as_slice().get(net) else {
+        return none;
+    };
+    let Some(pin) = net.pins.as_slice().get(pin as usize) else {
+        return none;
+    };
+    match pin.rects.as_slice().get(rect as usize) {
+        Some(metal) => metal.1,
+        None => none,
+    }
+}
+
+/// The number of a range that is nearest to z.
+fn nearest(lo: i64, hi: i64, z: i64) -> i64
+    ensures { result ≡ nearest lo hi z }
+{
+    lo.max(hi.min(z))
+}
+
+/// The point of a rectangle that is nearest to p.
+fn nearest_point(rect: Rect, p: Point) -> Point
+    ensures { result ≡ nearest_point rect p }
+{
+    Point {
+        x: nearest(rect.xl, rect.xh, p.x),
+        y: nearest(rect.yl, rect.yh, p.y),
+    }
+}
+
+/// The length of an entry's stub.
+fn entry_wire(design: &Design, net: usize, entry: &Entry) -> Result<u64, Memory>
+    ensures { IfOk result (λ n. n ≡ kind_wire design.now net entry.now.kind entry.now.vertex) }
+{
+    match entry.kind {
+        EntryKind::Pin { .. } => Ok(0),
+        EntryKind::Stub { pin, rect } => {
+            let to = entry.vertex.point;
+            units_between(nearest_point(pin_rect(design, net, pin, rect), to), to)
+        }
+        EntryKind::Wire => Ok(0),
+    }
+}
+
+fn edge_wire(v: Vertex, e: &Edge) -> Result<u64, Memory>
+    ensures { IfOk result (λ n. n ≡ edge_wire e.now.kind v e.now.to) }
+{
+    match e.kind {
+        EdgeKind::Along => units_between(v.point, e.to.point),
+        EdgeKind::Via(_) => Ok(0),
+    }
+}
+
+fn path_wire(start: Vertex, edges: &[Edge]) -> Result<u64, Memory>
+    ensures { IfOk result (λ n. n ≡ path_wire start edges.now) }
+{
+    let mut total = 0;
+    let mut at = start;
+    for e in edges {
+        total = sum(total, edge_wire(at, e)?)?;
+        at = e.to;
+    }
+    Ok(total)
+}
+
+fn walk_wire(design: &Design, net: usize, walk: &Walk) -> Result<u64, Memory>
+    ensures { IfOk result (λ n. n ≡ walk_wire design.now net walk.now) }
+{
+    let start = entry_wire(design, net, &walk.start)?;
+    let path = path_wire(walk.start.vertex, walk.edges.as_slice())?;
+    let finish = entry_wire(design, net, &walk.finish)?;
+    sum(sum(start, path)?, finish)
+}
+
+fn net_wire(design: &Design, net: usize, state: &NetState) -> Result<u64, Memory>
+    ensures { IfOk result (λ n. n ≡ net_wire design.now (net, state.now)) }
+{
+    let mut total = 0;
+    for walk in state.walks.as_slice() {
+        total = sum(total, walk_wire(design, net, walk)?)?;
+    }
+    Ok(total)
+}
+
+fn is_via(e: &Edge) -> bool
+    ensures { result ≡ is_via e.now.kind }
+{
+    match e.kind {
+        EdgeKind::Along => false,
+        EdgeKind::Via(_) => true,
+    }
+}
+
+fn walk_vias(walk: &Walk) -> usize
+    ensures { result ≡ walk_vias walk.now }
+{
+    walk.edges.as_slice().iter().filter(|e| is_via(e)).count()
+}
+
+fn net_vias(state: &NetState) -> Result<u64, Memory>
+    ensures { IfOk result (λ n. n ≡ net_vias state.now) }
+{
+    let mut total = 0;
+    for walk in state.walks.as_slice() {
+        total = sum(total, walk_vias(walk) as u64)?;
+    }
+    Ok(total)
+}
+
+/// The length of all standing walks along tracks and of their stubs.
+pub fn wire(design: &Design, states: &[NetState]) -> Result<u64, Memory>
+    ensures { IfOk result (λ n. n ≡ sum_by (net_wire design.now) (enumerate_from 0 states.now)) }
+{
+    let mut total = 0;
+    for (i, state) in states.iter().enumerate() {
+        total = sum(total, net_wire(design, i, state)?)?;
+    }
+    Ok(total)
+}
+
+/// The vias of all standing walks.
+pub fn vias(states: &[NetState]) -> Result<u64, Memory>
+    ensures { IfOk result (λ n. n ≡ sum_by net_vias states.now) }
+{
+    let mut total = 0;
+    for state in states {
+        total = sum(total, net_vias(state)?)?;
+    }
+    Ok(total)
+}
