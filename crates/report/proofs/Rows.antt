@@ -40,11 +40,11 @@ two_pins = pin_at 0 0 100 100 ∷ pin_at 1 0 900 100 ∷ []
 
 abbrev kinds : Design
 kinds = chip_of (
-  net_of (codes "r") Routable 0 two_pins
-  ∷ net_of (codes "s") Single 0 (pin_at 0 0 100 300 ∷ [])
-  ∷ net_of (codes "p") Prewired 0 two_pins
-  ∷ net_of (codes "u") Unguided 0 two_pins
-  ∷ []) []
+    net_of (codes "r") Routable 0 two_pins
+    ∷ net_of (codes "s") Single 0 (pin_at 0 0 100 300 ∷ [])
+    ∷ net_of (codes "p") Prewired 0 two_pins
+    ∷ net_of (codes "u") Unguided 0 two_pins
+    ∷ []) []
 
 kinds_report : report_text kinds (Wire 0 along_track ∷ [])
     ≡ codes "nets 4\njoined 1\nstuck 0\nunguided 1\nprewired 1\nsingle 1\nrips 0\nwire 800\nvias 0\nskipped 0\nunguided-net u\n"

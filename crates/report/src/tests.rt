@@ -190,14 +190,19 @@ fn corner(alloc: Global) -> Result<Walk, Memory> {
 #[test]
 fn one_wire(rt: HostRuntime) -> Result<(), Fail> {
     let alloc = rt.alloc();
-    let chip = design(alloc, nets_of(alloc, &[NetKind::Routable])?, Seq::new(alloc));
+    let chip = design(
+        alloc,
+        nets_of(alloc, &[NetKind::Routable])?,
+        Seq::new(alloc),
+    );
     let walk = corner(alloc)?;
     let mut journal = Journal::new(alloc);
     journal.reserve()?;
     journal.add(Block::Wire { net: 0, walk });
     assert!(rt; are_blocks(&chip, journal.blocks()));
     let text = report(alloc, &chip, &journal)?;
-    let wanted = b"nets 1\njoined 1\nstuck 0\nunguided 0\nprewired 0\nsingle 0\nrips 0\nwire 1200\nvias 1\nskipped 0\n";
+    let wanted =
+        b"nets 1\njoined 1\nstuck 0\nunguided 0\nprewired 0\nsingle 0\nrips 0\nwire 1200\nvias 1\nskipped 0\n";
     assert_eq!(rt; text.as_slice(), wanted.as_slice());
     Ok(())
 }
@@ -219,7 +224,12 @@ fn kinds(rt: HostRuntime) -> Result<(), Fail> {
             b"nets 3\njoined 0\nstuck 0\nunguided 0\nprewired 2\nsingle 1\nrips 0\nwire 0\nvias 0\nskipped 5\nskipped-in M1 4\nskipped-in - 1\n",
         ),
         (
-            &[NetKind::Unguided, NetKind::Routable, NetKind::Unguided, NetKind::Single],
+            &[
+                NetKind::Unguided,
+                NetKind::Routable,
+                NetKind::Unguided,
+                NetKind::Single,
+            ],
             b"nets 4\njoined 0\nstuck 1\nunguided 2\nprewired 0\nsingle 1\nrips 0\nwire 0\nvias 0\nskipped 5\nskipped-in M1 4\nskipped-in - 1\nno-path n\nunguided-net n\nunguided-net n\n",
         ),
     ];
