@@ -17,7 +17,7 @@ is_quote b = b == 34
 abbrev pub is_bad : ℕ → Bool
 is_bad b = (nat_lt b 32 && not (is_blank b)) || b == 127
 
--- one byte of white space; a comment behind its `#`; a token between quotes; another token, with its first byte
+-- one byte of white space; a comment, behind its `#`; a quoted token, between its quotes; another token, its first byte and the others
 pub data Part : Type 0 where
   Blank : ℕ → Part
   Comment : List ℕ → Part
@@ -35,7 +35,7 @@ abbrev pub spelling : List Part → List ℕ
 spelling [] = []
 spelling (p ∷ ps) = spelled p ++ spelling ps
 
--- the text ends here, or with a byte that passes
+-- nothing stands here, or first a byte that passes
 abbrev pub Begins : (ℕ → Bool) → List ℕ → Type 0
 Begins test [] = Unit {0}
 Begins test (b ∷ bs) = test b ≡ true
@@ -62,7 +62,7 @@ is_token (Plain b bs) = true
 abbrev pub line_after : List ℕ → ℕ
 line_after before = 1 + count_by is_feed before
 
--- a token of so many bytes behind others
+-- a token of so many bytes, behind these bytes
 abbrev pub token_after : List ℕ → ℕ → Token
 token_after before len = record { line = line_after before; first = length before; past = length before + len }
 

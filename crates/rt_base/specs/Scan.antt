@@ -7,7 +7,7 @@ use Rattle.rt_base.specs.declared.scan.ScanError.{ScanError}
 use Rattle.rt_base.specs.declared.scan.ScanError.TheVariants.{UnclosedQuote, NotText, Memory}
 use Rattle.rt_base.specs.Parts.{is_bad, is_quote, Part, spelling, AllFit, line_after, tokens_after}
 
--- no byte isn't text
+-- each byte is text
 abbrev pub IsText : List ℕ → Type 0
 IsText bytes = list_any is_bad bytes ≡ false
 
@@ -34,7 +34,7 @@ pub record IsBadAfter (text before : List ℕ) : Type 0 where
   pub bad : is_bad byte ≡ true
   pub whole : before ++ byte ∷ rest ≡ text
 
--- a text is cut into these tokens
+-- a text is cut into these tokens, and has no byte that isn't text
 pub record IsCutInto (text : List ℕ) (tokens : List Token) : Type 0 where
   pub made : IsMadeOf text tokens
   pub text_only : IsText text

@@ -1,4 +1,6 @@
 //! Worked rows of the test for conflicts and of tiles, and each public call once.
+ghost use Rattle.std.specs.Prelude.{◌≤ℤ◌};
+
 use crate::geometry::{Point, Rect};
 use crate::grid::Grid;
 use crate::memory::Memory;
@@ -35,6 +37,13 @@ fn two_layers(alloc: Global) -> Result<Tech, Memory> {
     })
 }
 
+fn rect(xl: i64, yl: i64, xh: i64, yh: i64) -> Rect
+    requires x { xl ≤ℤ xh }
+    requires y { yl ≤ℤ yh }
+{
+    Rect { xl, yl, xh, yh }
+}
+
 fn shape(layer: u32, owner: Owner, rect: Rect) -> Shape {
     Shape {
         layer: LayerNo(layer),
@@ -62,36 +71,11 @@ fn either_way(tech: &Tech, a: &Shape, b: &Shape) -> Option<bool> {
 #[test]
 fn conflicts(rt: HostRuntime) -> Result<(), Fail> {
     let tech = two_layers(rt.alloc())?;
-    let first = Rect {
-        xl: 0,
-        yl: 0,
-        xh: 100,
-        yh: 100,
-    };
-    let far = Rect {
-        xl: 160,
-        yl: 180,
-        xh: 260,
-        yh: 280,
-    };
-    let near = Rect {
-        xl: 160,
-        yl: 179,
-        xh: 260,
-        yh: 279,
-    };
-    let touching = Rect {
-        xl: 100,
-        yl: -50,
-        xh: 200,
-        yh: 0,
-    };
-    let beside = Rect {
-        xl: 101,
-        yl: 0,
-        xh: 200,
-        yh: 100,
-    };
+    let first = rect(0, 0, 100, 100);
+    let far = rect(160, 180, 260, 280);
+    let near = rect(160, 179, 260, 279);
+    let touching = rect(100, -50, 200, 0);
+    let beside = rect(101, 0, 200, 100);
     let net = Owner::Net(0);
     let other = Owner::Net(1);
     let nobody = Owner::Nobody;
@@ -166,86 +150,26 @@ fn tiles(rt: HostRuntime) {
     assert_eq!(rt; (grid.columns(), grid.rows(), grid.tiles()), (3, 3, 9));
     assert_eq!(rt; (grid.column(die.high()), grid.row(die.low())), (2, 0));
     let rows = [
-        (
-            "the lower left corner",
-            Rect {
-                xl: 100,
-                yl: 200,
-                xh: 100,
-                yh: 200,
-            },
-            [0, 0],
-        ),
+        ("the lower left corner", rect(100, 200, 100, 200), [0, 0]),
         (
             "the upper right corner",
-            Rect {
-                xl: 1100,
-                yl: 1100,
-                xh: 1100,
-                yh: 1100,
-            },
+            rect(1100, 1100, 1100, 1100),
             [8, 8],
         ),
         (
             "up to the last unit of a column",
-            Rect {
-                xl: 100,
-                yl: 200,
-                xh: 499,
-                yh: 200,
-            },
+            rect(100, 200, 499, 200),
             [0, 0],
         ),
-        (
-            "into the next column",
-            Rect {
-                xl: 499,
-                yl: 200,
-                xh: 500,
-                yh: 200,
-            },
-            [0, 1],
-        ),
+        ("into the next column", rect(499, 200, 500, 200), [0, 1]),
         (
             "left of the die and below it",
-            Rect {
-                xl: -90,
-                yl: -90,
-                xh: -80,
-                yh: -80,
-            },
+            rect(-90, -90, -80, -80),
             [0, 0],
         ),
-        (
-            "right of the die",
-            Rect {
-                xl: 5000,
-                yl: 300,
-                xh: 5001,
-                yh: 300,
-            },
-            [2, 2],
-        ),
-        (
-            "above the die",
-            Rect {
-                xl: 600,
-                yl: 9000,
-                xh: 600,
-                yh: 9001,
-            },
-            [7, 7],
-        ),
-        (
-            "the whole middle row",
-            Rect {
-                xl: -90,
-                yl: 650,
-                xh: 5000,
-                yh: 700,
-            },
-            [3, 5],
-        ),
+        ("right of the die", rect(5000, 300, 5001, 300), [2, 2]),
+        ("above the die", rect(600, 9000, 600, 9001), [7, 7]),
+        ("the whole middle row", rect(-90, 650, 5000, 700), [3, 5]),
     ];
     for (what, rect, [first, last]) in rows {
         for tile in 0..12 {
@@ -289,48 +213,46 @@ fn lists_and_names(rt: HostRuntime) -> Result<(), Fail> {
 #[test]
 fn scans(rt: HostRuntime) -> Result<(), Fail> {
     let alloc = rt.alloc();
-    let rows: [(&str, &[u8], &[(u32, &[u8])]); 9] = [
+    let rows: [(&str, &[u8], &[(u32, u32, u32)]); 9] = [
         ("nothing", b"", &[]),
         ("white space alone", b" \t\r\n\n", &[]),
         (
             "words and lines",
             b"VIA v1\n ; END",
-            &[(1, b"VIA"), (1, b"v1"), (2, b";"), (2, b"END")],
+            &[(1, 0, 3), (1, 4, 6), (2, 8, 9), (2, 10, 13)],
         ),
-        ("a comment", b"a # b \" c\nd", &[(1, b"a"), (2, b"d")]),
+        ("a comment", b"a # b \" c\nd", &[(1, 0, 1), (2, 10, 11)]),
         (
             "no comment inside a token",
             b"a#b #c#\n#d\ne#",
-            &[(1, b"a#b"), (3, b"e#")],
+            &[(1, 0, 3), (3, 11, 13)],
         ),
         (
             "no quote inside a token",
             b"a\"b c\"d",
-            &[(1, b"a\"b"), (1, b"c\"d")],
+            &[(1, 0, 3), (1, 4, 7)],
         ),
         (
             "a quote over lines",
             b"\"a\n#b\n\" c",
-            &[(1, b"\"a\n#b\n\""), (3, b"c")],
+            &[(1, 0, 7), (3, 8, 9)],
         ),
         (
             "behind a quote",
             b"\"a\"b \"\"\"c\"#d",
-            &[(1, b"\"a\""), (1, b"b"), (1, b"\"\""), (1, b"\"c\"")],
+            &[(1, 0, 3), (1, 3, 4), (1, 5, 7), (1, 7, 10)],
         ),
         (
             "CR LF, and a byte above 127",
             b"a\r\nb\xc3\r\n",
-            &[(1, b"a"), (2, b"b\xc3")],
+            &[(1, 0, 1), (2, 3, 5)],
         ),
     ];
     for (what, text, want) in rows {
         let found = tokens(alloc, text)?;
         assert_eq!(rt; found.len(), want.len(), "{what}");
-        for (token, (line, bytes)) in found.iter().zip(want) {
-            assert_eq!(rt; token.line, *line, "{what}");
-            let place = token.first as usize..token.past as usize;
-            assert_eq!(rt; text.get(place), Some(*bytes), "{what}");
+        for (token, places) in found.iter().zip(want.iter()) {
+            assert_eq!(rt; (token.line, token.first, token.past), *places, "{what}");
         }
     }
     Ok(())
