@@ -1,5 +1,5 @@
 -- What a reader hands on.
-use Rattle.std.proofs.Common.{◌≡◌, ◌≢◌, ℕ, List, Result, Ok, Err, Option, Some, None, refl, ap}
+use Rattle.std.proofs.Common.{◌≡◌, ◌≢◌, List, Result, Err, Option, ap}
 use Rattle.rt_forms.specs.Lexeme.{Lexeme, Place}
 use Rattle.rt_forms.specs.Form.{Faults, Form, Read, next_of, and_then, with_rest, some_or, admit}
 use Rattle.rt_forms.specs.Clauses.{Reads}

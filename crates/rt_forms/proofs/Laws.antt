@@ -1,8 +1,8 @@
 -- Reading a form finds what the form takes, and refuses what it refuses.
-use Rattle.std.proofs.Common.{◌≡◌, ℕ, Bool, true, false, zero, suc, ◌+◌, ◌≤◌, ◌<◌, List, [], ◌∷◌, ◌++◌, length, Result, Ok, Err, Option, Some, None, refl, sym, ap, subst, ◌∙◌, arith, ◌⊎◌, inl, inr, bytes_eq, ◌&&◌}
-use Rattle.std.proofs.lemmas.List.{append-nil, length-append}
+use Rattle.std.proofs.Common.{◌≡◌, ℕ, Bool, true, false, zero, suc, ◌+◌, ◌<◌, List, [], ◌∷◌, ◌++◌, length, Result, Ok, Err, Option, Some, None, refl, sym, ap, subst, ◌∙◌, arith, ◌⊎◌, inl, inr}
+use Rattle.std.proofs.lemmas.List.{length-append}
 use Rattle.rt_forms.specs.Lexeme.{Lexeme, At, End, Place, put, is_end, first_of}
-use Rattle.rt_forms.specs.Form.{Faults, Read, Form, and_then, with_rest, some_or, next_of, next, RefusesOne, one, admit, check, done, look, IsLeft, nothing_of, nothing, ◌>>=◌, Which, choose, Turn, More, Done, turns, after_turn, loop_of, Turns, RefusesTurn, loop, unless, whole, no_word, text}
+use Rattle.rt_forms.specs.Form.{Faults, Read, Form, and_then, with_rest, some_or, next_of, next, one, admit, check, done, look, IsLeft, nothing_of, nothing, ◌>>=◌, choose, Turn, More, Done, turns, after_turn, Turns, RefusesTurn, loop, unless, whole, no_word, text}
 
 pub record Lawful {E A : Type 0} (F : Form E A) : Type 0 where
   -- what is read stands there in the form
@@ -32,20 +32,20 @@ rest_err (Err d) ws e h = cc
 next_found : {E : Type 0} (f : Faults E) (ws rest : List Lexeme) (p : Place) → next_of f ws ≡ Ok (p, rest) → (front : List Place) × (ws ≡ put front rest) × (next {E = E}).takes front rest p
 next_found f [] rest p h = absurd cc
 next_found f (End line ∷ ws) rest p h = absurd cc
-next_found {E} f (At line word ∷ ws) rest p h =
-    let q : Place = record { line = line; word = word } in
+next_found {E} f (At line first word ∷ ws) rest p h =
+    let q : Place = record { line = line; first = first; word = word } in
     let same : (q, ws) ≡ (p, rest) = ok_is {E = E} (q, ws) (p, rest) h in
-    (q ∷ [], ap (λ (y : Place × List Lexeme). At line word ∷ y.1) same, ap (λ (y : Place × List Lexeme). y.0 ∷ []) same)
+    (q ∷ [], ap (λ (y : Place × List Lexeme). At line first word ∷ y.1) same, ap (λ (y : Place × List Lexeme). y.0 ∷ []) same)
 
 next_refused : {E : Type 0} (f : Faults E) (ws : List Lexeme) (e : E) → next_of f ws ≡ Err e → (next {E = E}).refuses f ws e
 next_refused f [] e h = cc
 next_refused f (End line ∷ ws) e h = cc
-next_refused f (At line word ∷ ws) e h = absurd cc
+next_refused f (At line first word ∷ ws) e h = absurd cc
 
 next_refuses : {E : Type 0} (f : Faults E) (ws : List Lexeme) (e : E) → (next {E = E}).refuses f ws e → next_of f ws ≡ Err e
 next_refuses f [] e h = rw h refl
 next_refuses f (End line ∷ ws) e h = rw h refl
-next_refuses f (At line word ∷ ws) e h = absurd h
+next_refuses f (At line first word ∷ ws) e h = absurd h
 
 pub lawful_next : {E : Type 0} → Lawful (next {E = E})
 lawful_next = record { found = next_found; only = λ f front rest p h. rw h refl; refused = next_refused; refuses = next_refuses }
@@ -53,10 +53,10 @@ lawful_next = record { found = next_found; only = λ f front rest p h. rw h refl
 one_found : {E A : Type 0} (test : Place → Result A E) (f : Faults E) (ws rest : List Lexeme) (a : A) → (one test).read f ws ≡ Ok (a, rest) → (front : List Place) × (ws ≡ put front rest) × (one test).takes front rest a
 one_found test f [] rest a h = absurd cc
 one_found test f (End line ∷ ws) rest a h = absurd cc
-one_found test f (At line word ∷ ws) rest a h =
-    let p : Place = record { line = line; word = word } in
+one_found test f (At line first word ∷ ws) rest a h =
+    let p : Place = record { line = line; first = first; word = word } in
     let r = rest_ok (test p) ws rest a h in
-    (p ∷ [], ap (λ (v : List Lexeme). At line word ∷ v) r.1, (p, refl, r.0))
+    (p ∷ [], ap (λ (v : List Lexeme). At line first word ∷ v) r.1, (p, refl, r.0))
 
 one_only : {E A : Type 0} (test : Place → Result A E) (f : Faults E) (front : List Place) (rest : List Lexeme) (a : A) → (one test).takes front rest a → (one test).read f (put front rest) ≡ Ok (a, rest)
 one_only test f front rest a h = rw (h.1, h.2) refl
@@ -64,12 +64,12 @@ one_only test f front rest a h = rw (h.1, h.2) refl
 one_refused : {E A : Type 0} (test : Place → Result A E) (f : Faults E) (ws : List Lexeme) (e : E) → (one test).read f ws ≡ Err e → (one test).refuses f ws e
 one_refused test f [] e h = cc
 one_refused test f (End line ∷ ws) e h = cc
-one_refused test f (At line word ∷ ws) e h = rest_err (test (record { line = line; word = word })) ws e h
+one_refused test f (At line first word ∷ ws) e h = rest_err (test (record { line = line; first = first; word = word })) ws e h
 
 one_refuses : {E A : Type 0} (test : Place → Result A E) (f : Faults E) (ws : List Lexeme) (e : E) → (one test).refuses f ws e → (one test).read f ws ≡ Err e
 one_refuses test f [] e h = rw h refl
 one_refuses test f (End line ∷ ws) e h = rw h refl
-one_refuses test f (At line word ∷ ws) e h = rw h refl
+one_refuses test f (At line first word ∷ ws) e h = rw h refl
 
 pub lawful_one : {E A : Type 0} (test : Place → Result A E) → Lawful (one test)
 lawful_one test = record { found = one_found test; only = one_only test; refused = one_refused test; refuses = one_refuses test }
@@ -87,10 +87,10 @@ admit_err e d None ws h = (refl, cc)
 admit_found : {E A : Type 0} (meaning : Place → Option A) (f : Faults E) (ws rest : List Lexeme) (a : A) → (admit {E = E} meaning).read f ws ≡ Ok (a, rest) → (front : List Place) × (ws ≡ put front rest) × (admit {E = E} meaning).takes front rest a
 admit_found meaning f [] rest a h = absurd cc
 admit_found meaning f (End line ∷ ws) rest a h = absurd cc
-admit_found meaning f (At line word ∷ ws) rest a h =
-    let p : Place = record { line = line; word = word } in
+admit_found meaning f (At line first word ∷ ws) rest a h =
+    let p : Place = record { line = line; first = first; word = word } in
     let r = admit_ok (f.expected line) (meaning p) ws rest a h in
-    (p ∷ [], ap (λ (v : List Lexeme). At line word ∷ v) r.1, (p, refl, r.0))
+    (p ∷ [], ap (λ (v : List Lexeme). At line first word ∷ v) r.1, (p, refl, r.0))
 
 admit_only : {E A : Type 0} (meaning : Place → Option A) (f : Faults E) (front : List Place) (rest : List Lexeme) (a : A) → (admit {E = E} meaning).takes front rest a → (admit meaning).read f (put front rest) ≡ Ok (a, rest)
 admit_only meaning f front rest a h = rw (h.1, h.2) refl
@@ -98,12 +98,12 @@ admit_only meaning f front rest a h = rw (h.1, h.2) refl
 admit_refused : {E A : Type 0} (meaning : Place → Option A) (f : Faults E) (ws : List Lexeme) (e : E) → (admit meaning).read f ws ≡ Err e → (admit meaning).refuses f ws e
 admit_refused meaning f [] e h = cc
 admit_refused meaning f (End line ∷ ws) e h = cc
-admit_refused meaning f (At line word ∷ ws) e h = admit_err (f.expected line) e (meaning (record { line = line; word = word })) ws h
+admit_refused meaning f (At line first word ∷ ws) e h = admit_err (f.expected line) e (meaning (record { line = line; first = first; word = word })) ws h
 
 admit_refuses : {E A : Type 0} (meaning : Place → Option A) (f : Faults E) (ws : List Lexeme) (e : E) → (admit meaning).refuses f ws e → (admit meaning).read f ws ≡ Err e
 admit_refuses meaning f [] e h = rw h refl
 admit_refuses meaning f (End line ∷ ws) e h = rw h refl
-admit_refuses meaning f (At line word ∷ ws) e h = rw (h.0, h.1) refl
+admit_refuses meaning f (At line first word ∷ ws) e h = rw (h.0, h.1) refl
 
 pub lawful_admit : {E A : Type 0} (meaning : Place → Option A) → Lawful (admit {E = E} meaning)
 lawful_admit meaning = record { found = admit_found meaning; only = admit_only meaning; refused = admit_refused meaning; refuses = admit_refuses meaning }
@@ -138,22 +138,22 @@ nothing_found {E} f (End line ∷ ws) rest a h =
     let same : (tt, End line ∷ ws) ≡ (a, rest) = ok_is {E = E} (tt, End line ∷ ws) (a, rest) h in
     let e = ap (λ (p : Unit {0} × List Lexeme). p.1) same in
     ([], e, (refl, ap is_end (sym e)))
-nothing_found f (At line word ∷ ws) rest a h = absurd cc
+nothing_found f (At line first word ∷ ws) rest a h = absurd cc
 
 nothing_only : {E : Type 0} (f : Faults E) (rest : List Lexeme) → is_end rest ≡ true → nothing_of f rest ≡ Ok (tt, rest)
 nothing_only f [] h = refl
 nothing_only f (End line ∷ ws) h = refl
-nothing_only f (At line word ∷ ws) h = absurd cc
+nothing_only f (At line first word ∷ ws) h = absurd cc
 
 nothing_refused : {E : Type 0} (f : Faults E) (ws : List Lexeme) (e : E) → nothing_of f ws ≡ Err e → IsLeft f ws e
 nothing_refused f [] e h = absurd cc
 nothing_refused f (End line ∷ ws) e h = absurd cc
-nothing_refused f (At line word ∷ ws) e h = cc
+nothing_refused f (At line first word ∷ ws) e h = cc
 
 nothing_refuses : {E : Type 0} (f : Faults E) (ws : List Lexeme) (e : E) → IsLeft f ws e → nothing_of f ws ≡ Err e
 nothing_refuses f [] e h = absurd h
 nothing_refuses f (End line ∷ ws) e h = absurd h
-nothing_refuses f (At line word ∷ ws) e h = rw h refl
+nothing_refuses f (At line first word ∷ ws) e h = rw h refl
 
 pub lawful_nothing : {E : Type 0} → Lawful (nothing {E = E})
 lawful_nothing = record {
@@ -167,7 +167,7 @@ lawful_nothing = record {
 
 pub put_append : (a b : List Place) (rest : List Lexeme) → put (a ++ b) rest ≡ put a (put b rest)
 put_append [] b rest = refl
-put_append (p ∷ a) b rest = ap (λ (v : List Lexeme). At p.line p.word ∷ v) (put_append a b rest)
+put_append (p ∷ a) b rest = ap (λ (v : List Lexeme). At p.line p.first p.word ∷ v) (put_append a b rest)
 
 pub bind_ok : {E A B : Type 0} (r : Result A E) (f : A → Result B E) (y : B) → and_then r f ≡ Ok y → (x : A) × (r ≡ Ok x) × (f x ≡ Ok y)
 bind_ok (Ok x) f y e = (x, refl, e)

@@ -1,9 +1,9 @@
 -- Loops that read.
-use Rattle.std.proofs.Common.{◌≡◌, ◌≢◌, ℕ, Bool, true, false, zero, suc, ◌+◌, ◌≤◌, ◌<◌, List, [], ◌∷◌, length, Result, Ok, Err, Option, Some, None, refl, sym, ap, ◌∙◌, arith}
+use Rattle.std.proofs.Common.{◌≡◌, ◌≢◌, ℕ, Bool, true, false, zero, suc, ◌≤◌, ◌<◌, List, [], ◌∷◌, length, Result, Ok, Err, Option, refl, sym, ap, ◌∙◌, arith}
 use Rattle.std.specs.Prelude.{IsErrAnd}
 use Rattle.std.proofs.lemmas.Result.{err_from_is_err_and}
 use Rattle.rt_forms.specs.Lexeme.{Lexeme, At, End, Place, is_end, first_of}
-use Rattle.rt_forms.specs.Form.{Faults, Read, Form, and_then, Turn, More, Done, turn, turns, after_turn, loop_of, loop, unless, no_word, nothing, nothing_of, text}
+use Rattle.rt_forms.specs.Form.{Faults, Read, Form, and_then, Turn, More, Done, turn, turns, loop_of, loop, unless, no_word, nothing, nothing_of, text}
 use Rattle.rt_forms.specs.Clauses.{Reads, Looks}
 use Rattle.rt_forms.proofs.Laws.{then_turns}
 
@@ -98,12 +98,12 @@ until_err {E} {S} {X} {f} {stops} {body} {s} {ws} {s0} {ws0} {e} view new r run 
 no_word_is : (ws : List Lexeme) → no_word (first_of ws) ≡ is_end ws
 no_word_is [] = refl
 no_word_is (End line ∷ ws) = refl
-no_word_is (At line word ∷ ws) = refl
+no_word_is (At line first word ∷ ws) = refl
 
 at_end : {E : Type 0} (f : Faults E) (ws : List Lexeme) → is_end ws ≡ true → nothing_of f ws ≡ Ok (tt, ws)
 at_end f [] h = refl
 at_end f (End line ∷ ws) h = refl
-at_end f (At line word ∷ ws) h = absurd cc
+at_end f (At line first word ∷ ws) h = absurd cc
 
 -- what comes after the loop of a text
 abbrev then_nothing : {E S : Type 0} → Faults E → Read E S → Read E S

@@ -1,11 +1,10 @@
 -- Whole texts: what a reader that gives what reading gives promises by the grammar.
-use Rattle.std.proofs.Common.{◌≡◌, ◌≢◌, ℕ, Bool, true, false, List, [], ◌∷◌, ◌++◌, length, ◌≤◌, Result, Ok, Err, refl, sym, ap, subst, ◌∙◌}
-use Rattle.std.specs.Prelude.{IfOk, IfErr}
+use Rattle.std.proofs.Common.{◌≡◌, ℕ, true, List, [], ◌∷◌, ◌++◌, Result, Ok, Err, refl, sym, ap, subst, ◌∙◌}
 use Rattle.std.proofs.lemmas.List.{append-nil}
 use Rattle.rt_base.specs.declared.token.Token.{Token}
-use Rattle.rt_forms.specs.Lexeme.{Lexeme, At, End, Place, place, put, is_end, ended, places, last_line, lexemes}
+use Rattle.rt_forms.specs.Lexeme.{Lexeme, At, End, Place, put, is_end, ended, places, last_line, lexemes}
 use Rattle.rt_forms.specs.Form.{Faults, Form, whole, Turn, text, loop, unless, no_word}
-use Rattle.rt_forms.specs.Clauses.{Gives, Looks, IsText, IsRefused, ReadsText}
+use Rattle.rt_forms.specs.Clauses.{Looks, ReadsText}
 use Rattle.rt_forms.proofs.Laws.{Lawful, ok_is}
 
 -- the form stands at the end of a text alone
@@ -18,17 +17,21 @@ whole_is F = record { at_end = λ front rest a h. let e = h.5.4.1 in rw h.5.5.0 
 pub text_is : {E S : Type 0} (body : S → Form E (Turn S)) (s : S) → IsWhole (text body s)
 text_is body s = whole_is (loop (unless no_word body) s)
 
-same_place : (p q : Place) → At p.line p.word ≡ At q.line q.word → p ≡ q
+abbrev place : ℕ → ℕ → List ℕ → Place
+place line first word = record { line = line; first = first; word = word }
+
+same_place : (p q : Place) → At p.line p.first p.word ≡ At q.line q.first q.word → p ≡ q
 same_place p q h =
     let l : p.line ≡ q.line = cc in
+    let f : p.first ≡ q.first = cc in
     let w : p.word ≡ q.word = cc in
-    ap (λ (n : ℕ). place n p.word) l ∙ ap (place q.line) w
+    ap (λ (n : ℕ). place n p.first p.word) l ∙ ap (λ (n : ℕ). place q.line n p.word) f ∙ ap (place q.line q.first) w
 
 put_split : (front words : List Place) (last : ℕ) (vs : List Lexeme) → ended words last ≡ put front vs → (back : List Place) × (words ≡ front ++ back) × (vs ≡ ended back last)
 put_split [] words last vs h = (words, refl, sym h)
 put_split (p ∷ front) [] last vs h = absurd cc
 put_split (p ∷ front) (q ∷ words) last vs h =
-    let e : At q.line q.word ≡ At p.line p.word = cc in
+    let e : At q.line q.first q.word ≡ At p.line p.first p.word = cc in
     let r : ended words last ≡ put front vs = cc in
     let s = put_split front words last vs r in
     (s.0, ap (λ (x : Place). x ∷ words) (same_place q p e) ∙ ap (λ (x : List Place). p ∷ x) s.1, s.2)

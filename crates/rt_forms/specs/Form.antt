@@ -32,13 +32,13 @@ and_then (Err e) f = Err e
 abbrev pub next_of : {E : Type 0} → Faults E → List Lexeme → Read E Place
 next_of f [] = Err (f.ended 1)
 next_of f (End line ∷ ws) = Err (f.ended line)
-next_of f (At line word ∷ ws) = Ok (record { line = line; word = word }, ws)
+next_of f (At line first word ∷ ws) = Ok (record { line = line; first = first; word = word }, ws)
 
 -- no word is left, or the next one is refused by the test
 abbrev pub RefusesOne : {E : Type 0} → Faults E → (Place → E → Type 0) → List Lexeme → E → Type 0
 RefusesOne f fails [] e = e ≡ f.ended 1
 RefusesOne f fails (End line ∷ ws) e = e ≡ f.ended line
-RefusesOne f fails (At line word ∷ ws) e = fails (record { line = line; word = word }) e
+RefusesOne f fails (At line first word ∷ ws) e = fails (record { line = line; first = first; word = word }) e
 
 -- any word
 abbrev pub next : {E : Type 0} → Form E Place
@@ -97,12 +97,12 @@ look = record {
 abbrev pub IsLeft : {E : Type 0} → Faults E → List Lexeme → E → Type 0
 IsLeft f [] e = ⊥
 IsLeft f (End line ∷ ws) e = ⊥
-IsLeft f (At line word ∷ ws) e = e ≡ f.expected line
+IsLeft f (At line first word ∷ ws) e = e ≡ f.expected line
 
 abbrev pub nothing_of : {E : Type 0} → Faults E → List Lexeme → Read E (Unit {0})
 nothing_of f [] = Ok (tt, [])
 nothing_of f (End line ∷ ws) = Ok (tt, End line ∷ ws)
-nothing_of f (At line word ∷ ws) = Err (f.expected line)
+nothing_of f (At line first word ∷ ws) = Err (f.expected line)
 
 -- no word, where none is left
 abbrev pub nothing : {E : Type 0} → Form E (Unit {0})

@@ -3,3 +3,4 @@ pub mod Form
 pub mod Reading
 pub mod Clauses
 pub mod Names
+pub mod Word

@@ -1,7 +1,7 @@
 -- Forms that several grammars share.
-use Rattle.std.specs.Prelude.{◌≡◌, ℕ, List, [], ◌∷◌, ◌++◌, Result, Ok, Err, Option, Some, None, bytes_eq, nat_eq, slice_get, codes, not, ◌||◌, ◌&&◌, Bool, true, false, if◌then◌else◌}
+use Rattle.std.specs.Prelude.{◌≡◌, ℕ, ◌+◌, List, [], ◌∷◌, Result, Ok, Err, Option, Some, None, bytes_eq, nat_eq, slice_get, codes, not, ◌||◌, ◌&&◌, Bool, true, false, if◌then◌else◌}
 use Rattle.std.specs.Option.{option_eq}
-use Rattle.rt_forms.specs.Lexeme.{Lexeme, At, End, Place, put, is_end, first_of}
+use Rattle.rt_forms.specs.Lexeme.{Lexeme, At, End, Place, first_of}
 use Rattle.rt_forms.specs.Form.{Faults, Read, Form, one, admit, look, done, ◌>>=◌, Which}
 
 abbrev pub if_so : {A : Type 0} → Bool → A → Option A
@@ -35,6 +35,20 @@ abbrev pub or_end : (List ℕ → Bool) → Option Place → Bool
 or_end test None = true
 or_end test (Some p) = test p.word
 
+-- how many words are left
+abbrev pub left_of : List Lexeme → ℕ
+left_of [] = 0
+left_of (End line ∷ ws) = 0
+left_of (At line first word ∷ ws) = 1 + left_of ws
+
+-- no word: how many are left
+abbrev pub left : {E : Type 0} → Form E ℕ
+left = record {
+  takes = λ front rest n. (front ≡ []) × (left_of rest ≡ n);
+  refuses = λ f ws e. ⊥;
+  read = λ f ws. Ok (left_of ws, ws);
+}
+
 -- whether the next word is this one
 abbrev pub at : {E : Type 0} → List ℕ → Form E Bool
 at word = do
@@ -52,12 +66,12 @@ IsUpTo last (p ∷ ps) = Which (last p.word) (ps ≡ []) (IsUpTo last ps)
 abbrev pub NoneUpTo : {E : Type 0} → Faults E → (List ℕ → Bool) → List Lexeme → E → Type 0
 NoneUpTo f last [] e = e ≡ f.ended 1
 NoneUpTo f last (End line ∷ ws) e = e ≡ f.ended line
-NoneUpTo f last (At line word ∷ ws) e = (last word ≡ false) × NoneUpTo f last ws e
+NoneUpTo f last (At line first word ∷ ws) e = (last word ≡ false) × NoneUpTo f last ws e
 
 abbrev pub after_first : {E : Type 0} → Faults E → (List ℕ → Bool) → List Lexeme → Read E (Unit {0})
 after_first f last [] = Err (f.ended 1)
 after_first f last (End line ∷ ws) = Err (f.ended line)
-after_first f last (At line word ∷ ws) = if last word then Ok (tt, ws) else after_first f last ws
+after_first f last (At line first word ∷ ws) = if last word then Ok (tt, ws) else after_first f last ws
 
 -- all words up to the first of which the test is true, and it too
 abbrev pub up_to : {E : Type 0} → (List ℕ → Bool) → Form E (Unit {0})
@@ -85,18 +99,18 @@ IsUpToPair a b (p ∷ q ∷ ps) = Which (bytes_eq p.word a && bytes_eq q.word b)
 abbrev pub NoPairUpTo : {E : Type 0} → Faults E → List ℕ → List ℕ → List Lexeme → E → Type 0
 NoPairUpTo f a b [] e = e ≡ f.ended 1
 NoPairUpTo f a b (End line ∷ ws) e = e ≡ f.ended line
-NoPairUpTo f a b (At line word ∷ ws) e = (bytes_eq word a && is_next b (first_of ws) ≡ false) × NoPairUpTo f a b ws e
+NoPairUpTo f a b (At line first word ∷ ws) e = (bytes_eq word a && is_next b (first_of ws) ≡ false) × NoPairUpTo f a b ws e
 
 -- what is behind the next word
 abbrev pub after_one : List Lexeme → List Lexeme
 after_one [] = []
 after_one (End line ∷ ws) = End line ∷ ws
-after_one (At line word ∷ ws) = ws
+after_one (At line first word ∷ ws) = ws
 
 abbrev pub after_pair : {E : Type 0} → Faults E → List ℕ → List ℕ → List Lexeme → Read E (Unit {0})
 after_pair f a b [] = Err (f.ended 1)
 after_pair f a b (End line ∷ ws) = Err (f.ended line)
-after_pair f a b (At line word ∷ ws) = if bytes_eq word a && is_next b (first_of ws) then Ok (tt, after_one ws) else after_pair f a b ws
+after_pair f a b (At line first word ∷ ws) = if bytes_eq word a && is_next b (first_of ws) then Ok (tt, after_one ws) else after_pair f a b ws
 
 -- all words up to the first two that are these, and they too
 abbrev pub up_to_pair : {E : Type 0} → List ℕ → List ℕ → Form E (Unit {0})
@@ -114,7 +128,7 @@ IsBefore test (p ∷ ps) rest = (test p.word ≡ false) × IsBefore test ps rest
 abbrev pub from_first : (List ℕ → Bool) → List Lexeme → List Lexeme
 from_first test [] = []
 from_first test (End line ∷ ws) = End line ∷ ws
-from_first test (At line word ∷ ws) = if test word then At line word ∷ ws else from_first test ws
+from_first test (At line first word ∷ ws) = if test word then At line first word ∷ ws else from_first test ws
 
 -- all words up to the first of which the test is true, which stays, or up to the end
 abbrev pub before : {E : Type 0} → (List ℕ → Bool) → Form E (Unit {0})

@@ -6,8 +6,10 @@ mod fault;
 mod names;
 #[cfg(test)]
 mod tests;
+mod word;
 mod words;
 
 pub use fault::Fault;
 pub use names::Names;
-pub use words::{Word, Words};
+pub use word::Word;
+pub use words::Words;

@@ -94,13 +94,14 @@ const TOKENS: [Token; 12] = [
 #[test]
 fn reads_word_by_word(rt: HostRuntime) {
     let mut words: Words<Refusal> = Words::new(TEXT, &TOKENS);
-    assert!(rt; !words.is_empty());
+    assert!(rt; !words.is_empty() && words.left() == 12);
     assert!(rt; words.at(b"A") && !words.at(b"B"));
     let name = words.name().unwrap_or(Word {
         line: 0,
+        first: 9,
         bytes: b"",
     });
-    assert!(rt; name.line == 1 && name.is(b"A") && name.is_name());
+    assert!(rt; name.line == 1 && name.first == 0 && name.is(b"A") && name.is_name());
     assert!(rt; matches!(words.name(), Err(Refusal::Expected { line: 1 })));
     assert!(rt; words.expect(b"+").is_ok());
     words.option_rest();

@@ -1,43 +1,16 @@
 //! Words of a text, from left to right.
 ghost use Rattle.std.specs.Prelude.{◌≡◌, ◌+◌, ◌≤◌, ◌<◌, length, bytes_eq, MatchOption, None, Some, Ok, OnOk};
 ghost use Rattle.rt_base.specs.Tokens.{AllInside};
-ghost use Rattle.rt_forms.specs.Lexeme.{is_end, lexemes, first_of, place, last_line};
+ghost use Rattle.rt_forms.specs.Lexeme.{is_end, lexemes, first_of, last_line};
+ghost use Rattle.rt_forms.specs.Word.{place_of};
 ghost use Rattle.rt_forms.specs.Form.{next as next_form, nothing};
-ghost use Rattle.rt_forms.specs.Reading.{the_word, a_name, is_name_word, semicolon as semicolon_form, rest as rest_form, up_to_word, up_to_pair as up_to_pair_form, is_next, or_end, ends_option, from_first, after_one};
+ghost use Rattle.rt_forms.specs.Reading.{the_word, a_name, semicolon as semicolon_form, rest as rest_form, up_to_word, up_to_pair as up_to_pair_form, left_of, is_next, or_end, ends_option, from_first, after_one};
 ghost use Rattle.rt_forms.specs.Clauses.{Reads, Looks};
 
 use crate::fault::Fault;
+use crate::word::Word;
 use rt_base::Token;
 use std::marker::{Model, PhantomData};
-
-/// A word of a text, and the line on which it begins.
-#[derive(Clone, Copy, Debug)]
-pub struct Word<'a> {
-    pub line: u32,
-    pub bytes: &'a [u8],
-}
-
-impl<'a> Word<'a> {
-    /// Whether it is this word.
-    pub fn is(&self, word: &[u8]) -> bool
-        ensures { result ≡ bytes_eq self.now.bytes.now word.now }
-    {
-        self.bytes == word
-    }
-
-    /// Whether it is a name: not quoted, and none of `;`, `+`, `-`, `(`, `)` and `*`.
-    pub fn is_name(&self) -> bool
-        ensures { result ≡ is_name_word self.now.bytes.now }
-    {
-        !(self.bytes.first() == Some(&b'"')
-            || self.is(b";")
-            || self.is(b"+")
-            || self.is(b"-")
-            || self.is(b"(")
-            || self.is(b")")
-            || self.is(b"*"))
-    }
-}
 
 /// The line of the last token, 1 where there is none.
 fn last_line(tokens: &[Token]) -> u32
@@ -93,14 +66,22 @@ impl<'a, E> Words<'a, E> {
         }
     }
 
+    /// How many words are left.
+    pub fn left(&self) -> usize
+        ensures { result ≡ left_of self.now }
+    {
+        self.tokens.len()
+    }
+
     /// The next word, which stays, or None where no word is left.
     pub fn peek(&self) -> Option<Word<'a>>
-        ensures { MatchOption result (first_of self.now ≡ None) (λ w. first_of self.now ≡ Some (place w.line w.bytes.now)) }
+        ensures { MatchOption result (first_of self.now ≡ None) (λ w. first_of self.now ≡ Some (place_of w)) }
     {
         match self.tokens {
             [] => None,
             [token, ..] => Some(Word {
                 line: token.line,
+                first: token.first,
                 bytes: &self.text[token.first as usize..token.past as usize],
             }),
         }
@@ -149,15 +130,18 @@ impl<'a, E> Words<'a, E> {
 impl<'a, E: Fault> Words<'a, E> {
     /// Takes the next word.
     pub fn next(&mut self) -> Result<Word<'a>, E>
-        ensures { Reads E.faults (λ w. place w.line w.bytes.now) result self.old self.new next_form }
+        ensures { Reads E.faults place_of result self.old self.new next_form }
     {
         match self.tokens {
             [] => Err(E::ended(self.last)),
             [token, behind @ ..] => {
-                let line = token.line;
-                let bytes = &self.text[token.first as usize..token.past as usize];
+                let word = Word {
+                    line: token.line,
+                    first: token.first,
+                    bytes: &self.text[token.first as usize..token.past as usize],
+                };
                 self.tokens = behind;
-                Ok(Word { line, bytes })
+                Ok(word)
             }
         }
     }
@@ -175,7 +159,7 @@ impl<'a, E: Fault> Words<'a, E> {
 
     /// Takes a name. Any other word is not expected.
     pub fn name(&mut self) -> Result<Word<'a>, E>
-        ensures { Reads E.faults (λ w. place w.line w.bytes.now) result self.old self.new a_name }
+        ensures { Reads E.faults place_of result self.old self.new a_name }
     {
         let next = self.next()?;
         if !next.is_name() {

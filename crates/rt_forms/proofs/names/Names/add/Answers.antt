@@ -1,6 +1,5 @@
 use Rattle.std.proofs.Common.{List, ℕ, ap, not, ◌∙◌, bytes_eq}
 use Rattle.std.specs.List.{list_any}
-use Rattle.rt_forms.specs.Names.{texts}
 use Rattle.rt_forms.proofs.Texts.{any_texts}
 use Rattle.rt_forms.proofs.names.Names.add.Goals as goal
 

@@ -1,4 +1,4 @@
-use Rattle.std.proofs.Common.{◌≡◌, sym, ap, ◌∙◌, arith}
+use Rattle.std.proofs.Common.{sym, ap, ◌∙◌, arith}
 use Rattle.rt_forms.specs.Lexeme.{is_end}
 use Rattle.rt_forms.proofs.Ends.{not_end}
 use Rattle.rt_forms.proofs.words.Words.is_empty.Goals as goal
