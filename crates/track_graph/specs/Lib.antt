@@ -12,3 +12,4 @@ pub mod Strokes
 pub mod Designs
 pub mod Conditions
 pub mod Journals
+pub mod Rules
