@@ -6,3 +6,4 @@ pub mod GraphLemmas
 pub mod ShapeLemmas
 pub mod EntryLemmas
 pub mod PathLemmas
+pub mod Rules

@@ -29,7 +29,7 @@ first_joined-none [] h = refl
 first_joined-none (p ∷ ps) h = absurd (omega arith)
 
 -- what stands of no net
-abbrev blank : NetState
+abbrev pub blank : NetState
 blank = record { walks = []; joined = []; rips = 0; stuck = false }
 
 pub net_state-other : (s : State) (n m : ℕ) (net : NetState) → m ≢ n → net_state (with_net s n net) m ≡ net_state s m

@@ -13,3 +13,4 @@ pub mod Designs
 pub mod Conditions
 pub mod Journals
 pub mod NetWalks
+pub mod Rules

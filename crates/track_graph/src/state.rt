@@ -1,8 +1,9 @@
 //! States: what stands of each net after the blocks of a journal.
 ghost use Rattle.std.specs.Prelude.{◌≡◌, ℕ, ◌<◌, ◌↔◌, ◌++◌, ◌∷◌, [], IsTrue, length, All, OnOk, OnErr, IfOk, IfSome};
 ghost use Rattle.track_graph.specs.Conditions.{IsBlockOf, IsStateOf};
-ghost use Rattle.track_graph.specs.Histories.{all_joined, IsFinished};
+ghost use Rattle.track_graph.specs.Histories.{all_joined, IsFinished, IsHistory};
 ghost use Rattle.track_graph.specs.Entries.{pin_of};
+ghost use Rattle.track_graph.specs.Rules.{BreaksNoRule};
 ghost use Rattle.track_graph.specs.States.{after, emptied, emptied_net, first_joined, first_state, fresh, join_pin, keep_first, net_state, state_of, with_mark, with_net, with_walk};
 
 use crate::design::{Design, Net, NetKind, Pin};
@@ -111,11 +112,12 @@ pub fn finished(design: &Design, state: &State) -> bool
     true
 }
 
-/// The state after a list of blocks.
+/// The state after a list of blocks. After the blocks of a history no wire breaks a rule of spacing.
 pub fn fold(alloc: Global, design: &Design, blocks: &[Block]) -> Result<State, Memory>
     requires { All (IsBlockOf design.now) blocks.now }
     ensures after { IfOk result (λ s. s ≡ state_of design.now blocks.now) }
     ensures of_design { IfOk result (λ s. IsStateOf design.now s) }
+    ensures rules { IfOk result (λ s. IsHistory design.now blocks.now → BreaksNoRule design.now s) }
 {
     let mut state = State::first(alloc, design)?;
     for block in blocks {
