@@ -7,10 +7,10 @@ use Rattle.track_graph.specs.declared.design.Design.{Design}
 use Rattle.track_graph.specs.declared.design.Net.{Net}
 use Rattle.track_graph.specs.declared.history.NetState.{NetState}
 use Rattle.track_graph.specs.declared.history.State.{State}
-use Rattle.track_graph.specs.NetWalks.{IsNetWalk}
+use Rattle.track_graph.specs.NetWalks.{IsNetWalk, IsRouted}
 use Rattle.track_graph.specs.States.{net_state}
 use Rattle.track_graph.specs.Strokes.{walk_strokes}
-use Rattle.def_out.specs.Conditions.{AreCloses, IsRouted}
+use Rattle.def_out.specs.Conditions.{AreCloses}
 use Rattle.def_out.specs.Wiring.{net_strokes, routed_from, wiring_text}
 
 -- what stands of a net that the state has

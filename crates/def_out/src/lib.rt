@@ -3,9 +3,9 @@
 
 ghost use Rattle.std.specs.Prelude.{◌≡◌, ◌++◌, ◌∷◌, ◌<◌, flat_map, length, All, IfOk, OnOk};
 ghost use Rattle.track_graph.specs.Designs.{IsDesign};
-ghost use Rattle.track_graph.specs.NetWalks.{IsNetWalk};
+ghost use Rattle.track_graph.specs.NetWalks.{IsNetWalk, IsRouted};
 ghost use Rattle.track_graph.specs.Strokes.{walk_strokes};
-ghost use Rattle.def_out.specs.Conditions.{AreCloses, IsRouted};
+ghost use Rattle.def_out.specs.Conditions.{AreCloses};
 ghost use Rattle.def_out.specs.Wiring.{run_text, via_text, stroke_text, further_text, wiring_text, routed_def};
 
 use rt_base::{Memory, Point, Tech, Walk};

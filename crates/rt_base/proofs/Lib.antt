@@ -1,3 +1,4 @@
 pub mod Parting
+pub mod Ranges
 pub mod Scanning
 pub mod Tiling

@@ -38,8 +38,35 @@ impl Model for Rect {
 }
 
 impl Rect {
-    ghost use Rattle.std.specs.Prelude.{◌≡◌, ◌≤ℤ◌, IsTrue, ◌↔◌};
-    ghost use Rattle.rt_base.specs.Geometry.{Holds, low_of, high_of};
+    ghost use Rattle.std.specs.Prelude.{◌≡◌, ◌≤ℤ◌, ◌^◌, IsTrue, ◌↔◌};
+    ghost use Rattle.rt_base.specs.Geometry.{Holds, low_of, high_of, hull_of, moved};
+    ghost use Rattle.rt_base.specs.Ranges.{IsPointWithin, AreSidesWithin};
+
+    /// The smallest rectangle with both points, its corners in any order. Takes no memory.
+    pub fn hull(p: Point, q: Point) -> Rect
+        ensures { result ≡ hull_of p q }
+    {
+        Rect {
+            xl: p.x.min(q.x),
+            yl: p.y.min(q.y),
+            xh: p.x.max(q.x),
+            yh: p.y.max(q.y),
+        }
+    }
+
+    /// The rectangle moved by a point. Takes no memory.
+    pub fn moved(self, by: Point) -> Rect
+        requires rect { AreSidesWithin (2 ^ 61) self }
+        requires by { IsPointWithin (2 ^ 61) by }
+        ensures { result ≡ moved by self }
+    {
+        Rect {
+            xl: self.xl + by.x,
+            yl: self.yl + by.y,
+            xh: self.xh + by.x,
+            yh: self.yh + by.y,
+        }
+    }
 
     /// The lower left corner.
     pub fn low(&self) -> Point

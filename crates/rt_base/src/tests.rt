@@ -5,6 +5,7 @@ use crate::geometry::{Point, Rect};
 use crate::grid::Grid;
 use crate::memory::Memory;
 use crate::name::Name;
+use crate::orient::{Orient, place};
 use crate::scan::{ScanError, tokens};
 use crate::seq::Seq;
 use crate::tech::{Layer, LayerNo, Owner, Shape, SpacingTable, Tech};
@@ -283,4 +284,43 @@ fn scan_faults(rt: HostRuntime) -> Result<(), Fail> {
     assert_eq!(rt; shown.as_str(), "line 7: a byte isn't text");
     assert_eq!(rt; ScanError::from(Memory), ScanError::Memory);
     Ok(())
+}
+
+/// A rectangle 20 30 60 70 of a macro of 400 by 200, placed at (1000, 1000) in each orientation.
+#[test]
+fn orientations(rt: HostRuntime) {
+    let pin = rect(20, 30, 60, 70);
+    let to = Point { x: 1000, y: 1000 };
+    assert_eq!(rt;
+        place(Orient::N, 400, 200, pin).moved(to),
+        rect(1020, 1030, 1060, 1070)
+    );
+    assert_eq!(rt;
+        place(Orient::W, 400, 200, pin).moved(to),
+        rect(1130, 1020, 1170, 1060)
+    );
+    assert_eq!(rt;
+        place(Orient::S, 400, 200, pin).moved(to),
+        rect(1340, 1130, 1380, 1170)
+    );
+    assert_eq!(rt;
+        place(Orient::E, 400, 200, pin).moved(to),
+        rect(1030, 1340, 1070, 1380)
+    );
+    assert_eq!(rt;
+        place(Orient::FN, 400, 200, pin).moved(to),
+        rect(1340, 1030, 1380, 1070)
+    );
+    assert_eq!(rt;
+        place(Orient::FS, 400, 200, pin).moved(to),
+        rect(1020, 1130, 1060, 1170)
+    );
+    assert_eq!(rt;
+        place(Orient::FW, 400, 200, pin).moved(to),
+        rect(1030, 1020, 1070, 1060)
+    );
+    assert_eq!(rt;
+        place(Orient::FE, 400, 200, pin).moved(to),
+        rect(1130, 1340, 1170, 1380)
+    );
 }

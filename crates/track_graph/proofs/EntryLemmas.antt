@@ -9,12 +9,14 @@ use Rattle.rt_base.specs.declared.walk.EntryKind.TheVariants.{Stub, Wire as OnWi
 use Rattle.track_graph.specs.declared.design.Design.{Design}
 use Rattle.track_graph.specs.declared.design.Net.{Net}
 use Rattle.track_graph.specs.declared.design.Pin.{Pin}
-use Rattle.track_graph.specs.Designs.{IsPointWithin, AreSidesWithin, IsMetal, KindFits, FitsPin, IsPin, IsNet, IsDesign}
+use Rattle.track_graph.specs.Designs.{IsMetal, KindFits, FitsPin, IsPin, IsNet, IsDesign}
+use Rattle.rt_base.specs.Ranges.{IsPointWithin, AreSidesWithin}
 use Rattle.track_graph.specs.Entries.{nearest_point, pins_of, entries_of, rects_of, rect_of, no_metal}
 use Rattle.track_graph.specs.Levels.{track_system_of, IsVertex}
 use Rattle.track_graph.specs.Metal.{Metal, distance}
 use Rattle.track_graph.specs.NetWalks.{IsNetEntry}
-use Rattle.track_graph.proofs.ShapeLemmas.{within-min, within-max, vertex_within, distance_within}
+use Rattle.track_graph.proofs.ShapeLemmas.{vertex_within, distance_within}
+use Rattle.rt_base.proofs.Ranges.{within-min, within-max}
 
 -- what holds of each element holds of the one that is read
 All-slice_get : {X : Type 0} (P : X → Type 0) (xs : List X) (k : ℕ) (x : X) → All P xs → slice_get xs k ≡ Some x → P x

@@ -1,6 +1,7 @@
 -- What holds of every design: its numbers are in range, its parts fit each other, and each entry fits its pin.
 use Rattle.std.specs.Prelude.{◌≡◌, ◌⊎◌, ℕ, ◌+◌, ◌^◌, ◌%◌, ◌≤◌, ◌<◌, ℤ, pos, ◌<ℤ◌, ◌≤ℤ◌, List, IsTrue, not, length, slice_get, Some, All, AllPairs, Any, unsigned_abs, ◌↔◌, Contains}
 use Rattle.rt_base.specs.Sides.{Sides}
+use Rattle.rt_base.specs.Ranges.{IsWithin, AreSidesWithin, IsWidth}
 use Rattle.rt_base.specs.declared.geometry.Point.{Point}
 use Rattle.rt_base.specs.declared.grid.Grid.{Grid}
 use Rattle.rt_base.specs.declared.tech.Layer.{Layer}
@@ -19,20 +20,6 @@ use Rattle.track_graph.specs.declared.design.Tracks.{Tracks}
 use Rattle.track_graph.specs.Entries.{IsEntry}
 use Rattle.track_graph.specs.Levels.{TrackSystem, track_system_of, IsVertex, levels, layer_no, is_horizontal}
 use Rattle.track_graph.specs.Metal.{Metal}
-
--- at most this far from 0
-abbrev pub IsWithin : ℕ → ℤ → Type 0
-IsWithin most z = unsigned_abs z ≤ most
-
-abbrev pub IsPointWithin : ℕ → Point → Type 0
-IsPointWithin most p = IsWithin most p.x × IsWithin most p.y
-
-abbrev pub AreSidesWithin : ℕ → Sides → Type 0
-AreSidesWithin most s = IsWithin most s.xl × IsWithin most s.yl × IsWithin most s.xh × IsWithin most s.yh
-
--- even and at least 2
-abbrev pub IsWidth : ℤ → Type 0
-IsWidth w = (pos 2 ≤ℤ w) × (w ≤ℤ pos (2 ^ 32)) × (unsigned_abs w % 2 ≡ 0)
 
 -- a cut layer between a level and the next one up
 abbrev pub IsCutBetween : Tech → ℕ → LayerNo → Type 0

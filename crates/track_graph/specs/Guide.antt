@@ -1,9 +1,8 @@
 -- Guides: where the wires of a net may run (ISPD 2018 contest, route guides).
 use Rattle.std.specs.Prelude.{◌≡◌, ℕ, List, Any}
-use Rattle.std.specs.Int.{int_min, int_max}
 use Rattle.rt_base.specs.declared.geometry.Point.{Point}
 use Rattle.rt_base.specs.Sides.{Sides}
-use Rattle.rt_base.specs.Geometry.{Holds}
+use Rattle.rt_base.specs.Geometry.{Holds, hull_of}
 
 -- a list of closed boxes, each on a level
 abbrev pub Guide : Type 0
@@ -12,10 +11,6 @@ Guide = List (ℕ × Sides)
 -- a box of the level holds the point
 abbrev pub InGuide : Guide → ℕ → Point → Type 0
 InGuide guide level p = Any (λ (box : ℕ × Sides). (box.0 ≡ level) × Holds box.1 p) guide
-
--- the smallest rectangle with both points
-abbrev pub hull_of : Point → Point → Sides
-hull_of p q = record { xl = int_min p.x q.x; yl = int_min p.y q.y; xh = int_max p.x q.x; yh = int_max p.y q.y }
 
 -- each whole-number point from p to q lies in a box of the level
 abbrev pub RunsInGuide : Guide → ℕ → Point → Point → Type 0

@@ -9,7 +9,7 @@ use Rattle.rt_base.specs.declared.tech.Owner.TheVariants.{Net as OfNet}
 use Rattle.rt_base.specs.declared.tech.Shape.{Shape}
 use Rattle.rt_base.specs.declared.tech.Tech.{Tech}
 use Rattle.rt_base.specs.declared.tech.Via.{Via}
-use Rattle.track_graph.specs.Guide.{hull_of}
+use Rattle.rt_base.specs.Geometry.{hull_of, moved}
 use Rattle.track_graph.specs.Levels.{layer_no, levels, width_of}
 
 -- a rectangle on a layer
@@ -23,10 +23,6 @@ distance p q = unsigned_abs (p.x -ℤ q.x) + unsigned_abs (p.y -ℤ q.y)
 -- a rectangle made larger by h on each side
 abbrev pub grown : Sides → ℤ → Sides
 grown s h = record { xl = s.xl -ℤ h; yl = s.yl -ℤ h; xh = s.xh +ℤ h; yh = s.yh +ℤ h }
-
--- a rectangle moved by a point
-abbrev pub moved : Point → Sides → Sides
-moved p s = record { xl = s.xl +ℤ p.x; yl = s.yl +ℤ p.y; xh = s.xh +ℤ p.x; yh = s.yh +ℤ p.y }
 
 abbrev pub half_width : Tech → ℕ → ℤ
 half_width tech level = pos (unsigned_abs (width_of tech level) / 2)

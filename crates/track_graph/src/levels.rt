@@ -5,10 +5,11 @@ ghost use Rattle.track_graph.specs.Designs.{IsDesign};
 ghost use Rattle.track_graph.specs.Levels.{levels, number_of, is_horizontal, layer_name_of, lines_of, lines_below, positions_of, along, line_of, track_system_of, IsVertex};
 
 use crate::design::{Design, Tracks};
-use rt_base::{Layer, Point, Rect, Tech, Vertex};
+use rt_base::{Layer, Point, Tech, Vertex};
 
-/// The layer of a level, with its number among all layers.
-pub(crate) fn level_layer(tech: &Tech, level: u8) -> Option<(usize, &Layer)>
+/// The layer of a level, with its number among all layers, `None` where there is no such level.
+/// Takes no memory.
+pub fn level_layer(tech: &Tech, level: u8) -> Option<(usize, &Layer)>
     ensures { MatchOption result (slice_get (levels tech.now) level ≡ None) (λ l. slice_get (levels tech.now) level ≡ Some (l.0, l.1.now)) }
 {
     let layers = tech.layers.as_slice();
@@ -55,8 +56,8 @@ fn is_level_horizontal(tech: &Tech, level: u8) -> bool
     }
 }
 
-/// Where a point stands along the tracks of a level.
-pub(crate) fn along_of(tech: &Tech, level: u8, p: Point) -> i64
+/// Where a point stands along the tracks of a level. Takes no memory.
+pub fn along_of(tech: &Tech, level: u8, p: Point) -> i64
     ensures { result ≡ along tech.now level p }
 {
     if is_level_horizontal(tech, level) {
@@ -66,8 +67,8 @@ pub(crate) fn along_of(tech: &Tech, level: u8, p: Point) -> i64
     }
 }
 
-/// Which line of a level a point is on.
-pub(crate) fn line_at(tech: &Tech, level: u8, p: Point) -> i64
+/// Which line of a level a point is on. Takes no memory.
+pub fn line_at(tech: &Tech, level: u8, p: Point) -> i64
     ensures { result ≡ line_of tech.now level p }
 {
     if is_level_horizontal(tech, level) {
@@ -75,19 +76,6 @@ pub(crate) fn line_at(tech: &Tech, level: u8, p: Point) -> i64
     } else {
         p.x
     }
-}
-
-/// Whether a rectangle holds the point.
-pub(crate) fn holds(rect: &Rect, p: Point) -> bool
-    ensures { IsTrue result ↔ Holds rect.now p }
-{
-    if p.x < rect.xl || rect.xh < p.x {
-        return false;
-    }
-    if p.y < rect.yl || rect.yh < p.y {
-        return false;
-    }
-    true
 }
 
 /// Whether a number is one of these, which ascend.
@@ -98,8 +86,8 @@ fn is_among(lines: &[i64], z: i64) -> bool
     lines.binary_search(&z).is_ok()
 }
 
-/// The track lines of a level.
-pub(crate) fn level_lines(tracks: &Tracks, level: usize) -> &[i64]
+/// The track lines of a level, none where there is no such level. Takes no memory.
+pub fn level_lines(tracks: &Tracks, level: usize) -> &[i64]
     ensures { result.now ≡ lines_of tracks.now level }
 {
     match tracks.lines.as_slice().get(level) {
@@ -108,8 +96,8 @@ pub(crate) fn level_lines(tracks: &Tracks, level: usize) -> &[i64]
     }
 }
 
-/// The track lines of the level below.
-pub(crate) fn lines_under(tracks: &Tracks, level: usize) -> &[i64]
+/// The track lines of the level below, none at the lowest level. Takes no memory.
+pub fn lines_under(tracks: &Tracks, level: usize) -> &[i64]
     ensures { result.now ≡ lines_below tracks.now level }
 {
     if level == 0 {
@@ -138,7 +126,7 @@ pub fn is_vertex(design: &Design, v: Vertex) -> bool
     if layer_number(&design.tech, v.level).is_none() {
         return false;
     }
-    if !holds(&design.grid.die, v.point) {
+    if !design.grid.die.holds(v.point) {
         return false;
     }
     let line = line_at(&design.tech, v.level, v.point);

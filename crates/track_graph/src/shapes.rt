@@ -1,11 +1,13 @@
 //! Shapes that edges, entries and walks put down.
 ghost use Rattle.std.specs.Prelude.{◌≡◌, ℕ, ◌++◌, ◌^◌, ◌<◌, ◌≤ℤ◌, pos, length, OnOk, IfOk};
-ghost use Rattle.track_graph.specs.Designs.{IsDesign, IsTech, IsPointWithin, AreSidesWithin};
+ghost use Rattle.track_graph.specs.Designs.{IsDesign, IsTech};
+ghost use Rattle.rt_base.specs.Ranges.{IsPointWithin, AreSidesWithin};
 ghost use Rattle.track_graph.specs.Edges.{IsEdge, edge_metal};
 ghost use Rattle.track_graph.specs.Entries.{piece_metal, stub_metal, entry_part};
-ghost use Rattle.track_graph.specs.Guide.{hull_of};
+ghost use Rattle.rt_base.specs.Geometry.{hull_of};
 ghost use Rattle.track_graph.specs.Levels.{track_system_of, layer_no};
-ghost use Rattle.track_graph.specs.Metal.{grown, moved, half_width, wire_metal, via_metal, shape_of, shapes_of};
+ghost use Rattle.track_graph.specs.Metal.{grown, half_width, wire_metal, via_metal, shape_of, shapes_of};
+ghost use Rattle.rt_base.specs.Geometry.{moved};
 ghost use Rattle.track_graph.specs.NetWalks.{IsNetEntry, IsNetWalk};
 ghost use Rattle.track_graph.specs.Walks.{IsPath, path_parts, parts_shapes, walk_shapes_of};
 
@@ -42,18 +44,6 @@ fn half_width(tech: &Tech, level: u8) -> i64
     }
 }
 
-/// The smallest rectangle with both points.
-fn hull(p: Point, q: Point) -> Rect
-    ensures { result ≡ hull_of p q }
-{
-    Rect {
-        xl: p.x.min(q.x),
-        yl: p.y.min(q.y),
-        xh: p.x.max(q.x),
-        yh: p.y.max(q.y),
-    }
-}
-
 /// The rectangle made larger on each side.
 fn grown(rect: Rect, by: i64) -> Rect
     requires rect { AreSidesWithin (2 ^ 61) rect }
@@ -69,20 +59,6 @@ fn grown(rect: Rect, by: i64) -> Rect
     }
 }
 
-/// The rectangle moved by a point.
-fn moved(rect: Rect, p: Point) -> Rect
-    requires rect { AreSidesWithin (2 ^ 61) rect }
-    requires point { IsPointWithin (2 ^ 61) p }
-    ensures { result ≡ moved p rect }
-{
-    Rect {
-        xl: rect.xl + p.x,
-        yl: rect.yl + p.y,
-        xh: rect.xh + p.x,
-        yh: rect.yh + p.y,
-    }
-}
-
 /// The shape of a straight wire of a net between two points of a level.
 fn wire_shape(tech: &Tech, net: u32, level: u8, p: Point, q: Point) -> Shape
     requires tech { IsTech tech.now }
@@ -92,7 +68,7 @@ fn wire_shape(tech: &Tech, net: u32, level: u8, p: Point, q: Point) -> Shape
 {
     Shape {
         layer: layer_at(tech, level),
-        rect: grown(hull(p, q), half_width(tech, level)),
+        rect: grown(Rect::hull(p, q), half_width(tech, level)),
         owner: Owner::Net(net),
         fixed: false,
     }
@@ -115,7 +91,7 @@ fn push_via(
     for (layer, rect) in rects {
         shapes.push(Shape {
             layer: *layer,
-            rect: moved(*rect, p),
+            rect: rect.moved(p),
             owner: Owner::Net(net),
             fixed: false,
         })?;

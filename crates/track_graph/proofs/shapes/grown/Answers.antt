@@ -1,7 +1,7 @@
 use Rattle.std.proofs.Common.{◌^◌, ap}
 use Rattle.rt_base.specs.Sides.{Sides}
-use Rattle.track_graph.specs.Designs.{IsWithin, AreSidesWithin}
-use Rattle.track_graph.proofs.ShapeLemmas.{sum_is, diff_is, within-from_range, grown_ordered}
+use Rattle.rt_base.specs.Ranges.{IsWithin, AreSidesWithin}
+use Rattle.rt_base.proofs.Ranges.{sum_is, diff_is, within-from_range, grown_ordered}
 use Rattle.track_graph.proofs.shapes.grown.Goals as goal
 
 pub invariant_of-result : goal.invariant_of-result

@@ -1,5 +1,6 @@
 use Rattle.std.proofs.Common.{◌≡◌, ◌++◌, map, take}
-use Rattle.track_graph.specs.Metal.{Metal, moved, shapes_of}
+use Rattle.track_graph.specs.Metal.{Metal, shapes_of}
+use Rattle.rt_base.specs.Geometry.{moved}
 use Rattle.track_graph.proofs.shapes.push_via.Given as goal
 
 abbrev pub invariant-loop-layer : goal.invariant-loop-layer

@@ -1,6 +1,6 @@
 use Rattle.std.proofs.Common.{◌^◌, arith}
-use Rattle.track_graph.specs.Guide.{hull_of}
-use Rattle.track_graph.proofs.ShapeLemmas.{hull_within, sides-weaker}
+use Rattle.rt_base.specs.Geometry.{hull_of}
+use Rattle.rt_base.proofs.Ranges.{hull_within, sides-weaker}
 use Rattle.track_graph.proofs.shapes.wire_shape.Goals as goal
 
 pub grown-requires-clause-rect : goal.grown-requires-clause-rect
