@@ -1,5 +1,6 @@
 //! Worked rows of the test for conflicts and of tiles, and each public call once.
-ghost use Rattle.std.specs.Prelude.{◌≤ℤ◌};
+ghost use Rattle.std.specs.Prelude.{◌≤ℤ◌, ◌^◌};
+ghost use Rattle.rt_base.specs.Ranges.{AreSidesWithin};
 
 use crate::geometry::{Point, Rect};
 use crate::grid::Grid;
@@ -286,41 +287,32 @@ fn scan_faults(rt: HostRuntime) -> Result<(), Fail> {
     Ok(())
 }
 
-/// A rectangle 20 30 60 70 of a macro of 400 by 200, placed at (1000, 1000) in each orientation.
+/// A rectangle of a macro of 400 by 200.
+fn pin() -> Rect
+    ensures { AreSidesWithin (2 ^ 61) result }
+{
+    Rect {
+        xl: 20,
+        yl: 30,
+        xh: 60,
+        yh: 70,
+    }
+}
+
+/// The pin in each orientation, and moved.
 #[test]
 fn orientations(rt: HostRuntime) {
-    let pin = rect(20, 30, 60, 70);
-    let to = Point { x: 1000, y: 1000 };
+    assert_eq!(rt; place(Orient::N, 400, 200, pin()), rect(20, 30, 60, 70));
+    assert_eq!(rt; place(Orient::W, 400, 200, pin()), rect(130, 20, 170, 60));
+    assert_eq!(rt; place(Orient::S, 400, 200, pin()), rect(340, 130, 380, 170));
+    assert_eq!(rt; place(Orient::E, 400, 200, pin()), rect(30, 340, 70, 380));
+    assert_eq!(rt; place(Orient::FN, 400, 200, pin()), rect(340, 30, 380, 70));
+    assert_eq!(rt; place(Orient::FS, 400, 200, pin()), rect(20, 130, 60, 170));
+    assert_eq!(rt; place(Orient::FW, 400, 200, pin()), rect(30, 20, 70, 60));
     assert_eq!(rt;
-        place(Orient::N, 400, 200, pin).moved(to),
-        rect(1020, 1030, 1060, 1070)
+        place(Orient::FE, 400, 200, pin()),
+        rect(130, 340, 170, 380)
     );
-    assert_eq!(rt;
-        place(Orient::W, 400, 200, pin).moved(to),
-        rect(1130, 1020, 1170, 1060)
-    );
-    assert_eq!(rt;
-        place(Orient::S, 400, 200, pin).moved(to),
-        rect(1340, 1130, 1380, 1170)
-    );
-    assert_eq!(rt;
-        place(Orient::E, 400, 200, pin).moved(to),
-        rect(1030, 1340, 1070, 1380)
-    );
-    assert_eq!(rt;
-        place(Orient::FN, 400, 200, pin).moved(to),
-        rect(1340, 1030, 1380, 1070)
-    );
-    assert_eq!(rt;
-        place(Orient::FS, 400, 200, pin).moved(to),
-        rect(1020, 1130, 1060, 1170)
-    );
-    assert_eq!(rt;
-        place(Orient::FW, 400, 200, pin).moved(to),
-        rect(1030, 1020, 1070, 1060)
-    );
-    assert_eq!(rt;
-        place(Orient::FE, 400, 200, pin).moved(to),
-        rect(1130, 1340, 1170, 1380)
-    );
+    let to = Point { x: 1000, y: -30 };
+    assert_eq!(rt; pin().moved(to), rect(1020, 0, 1060, 40));
 }
