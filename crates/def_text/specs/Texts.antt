@@ -1,0 +1,158 @@
+-- A DEF text: statements and sections in any order, ended by END DESIGN (DEF 5.8, Order of DEF Statements; that any order is admitted is this project's choice).
+use Rattle.rt_base.specs.Sides.{Sides}
+use Rattle.std.specs.Prelude.{ℕ, List, [], ◌∷◌, ◌++◌, Result, Ok, Err, Option, Some, None, codes, ◌^◌, ◌≤◌, ◌<◌, length, All, IfSome}
+use Rattle.rt_forms.specs.Lexeme.{Place}
+use Rattle.rt_forms.specs.Form.{Form, next, check, done, ◌>>=◌, loop, whole, Turn, More, Done}
+use Rattle.rt_forms.specs.Reading.{the_word, semicolon, rest, up_to_word, up_to_pair}
+use Rattle.def_text.specs.declared.error.DefError.{DefError}
+use Rattle.def_text.specs.declared.error.DefError.TheVariants.{Unknown, Missing, NotYet}
+use Rattle.def_text.specs.declared.kinds.Statement.{Statement}
+use Rattle.def_text.specs.declared.kinds.Statement.TheVariants.{Units, Die, Tracks, Unused, Skipped, Extension, Pins, Nets, Later, End, Other}
+use Rattle.rt_base.specs.Ranges.{AreSidesWithin}
+use Rattle.def_text.specs.declared.def.Def.{Def}
+use Rattle.def_text.specs.declared.def.IoPin.{IoPin}
+use Rattle.def_text.specs.declared.def.DefNet.{DefNet}
+use Rattle.def_text.specs.Defs.{AreNamedApart, IsTrackRow, IsIoPin, IsDefNet}
+use Rattle.def_text.specs.declared.statements.Parsed.{Parsed}
+use Rattle.def_text.specs.Kinds.{statement_of}
+use Rattle.def_text.specs.Parts.{a_count, once}
+use Rattle.def_text.specs.Tracks.{die, track_row}
+use Rattle.def_text.specs.Sections.{said_count, more_items}
+use Rattle.def_text.specs.Pins.{pin_item}
+use Rattle.def_text.specs.Nets.{net_item}
+
+-- nothing was read yet
+abbrev pub nothing_read : Parsed
+nothing_read = record { units = None; die = None; tracks = []; pins = None; nets = None; skipped = 0 }
+
+-- `UNITS DISTANCE MICRONS n ;`
+unfoldable pub units_statement : Place → Parsed → Form DefError (Turn Parsed)
+units_statement w s = do
+  _ ← check (once s.units w)
+  _ ← the_word (codes "DISTANCE")
+  _ ← the_word (codes "MICRONS")
+  units ← a_count 1 1000000
+  _ ← semicolon
+  done (More (record s { units = Some units }))
+
+unfoldable pub die_statement : Place → Parsed → Form DefError (Turn Parsed)
+die_statement w s = do
+  _ ← check (once s.die w)
+  sides ← die
+  done (More (record s { die = Some sides }))
+
+unfoldable pub tracks_statement : Parsed → Form DefError (Turn Parsed)
+tracks_statement s = do
+  row ← track_row
+  done (More (record s { tracks = s.tracks ++ row ∷ [] }))
+
+unfoldable pub pins_section : Place → Parsed → Form DefError (Turn Parsed)
+pins_section w s = do
+  _ ← check (once s.pins w)
+  said ← said_count
+  listed ← loop (more_items (codes "PINS") said pin_item) (record { names = []; items = []; skipped = s.skipped })
+  done (More (record s { pins = Some listed.items; skipped = listed.skipped }))
+
+unfoldable pub nets_section : Place → Parsed → Form DefError (Turn Parsed)
+nets_section w s = do
+  _ ← check (once s.nets w)
+  said ← said_count
+  listed ← loop (more_items (codes "NETS") said net_item) (record { names = []; items = []; skipped = s.skipped })
+  done (More (record s { nets = Some listed.items; skipped = listed.skipped }))
+
+abbrev pub statement_by : Statement → Place → Parsed → Form DefError (Turn Parsed)
+statement_by Units w s = units_statement w s
+statement_by Die w s = die_statement w s
+statement_by Tracks w s = tracks_statement s
+statement_by Pins w s = pins_section w s
+statement_by Nets w s = nets_section w s
+statement_by Unused w s = do
+  _ ← rest
+  done (More s)
+statement_by Skipped w s = do
+  _ ← up_to_pair (codes "END") w.word
+  done (More s)
+statement_by Extension w s = do
+  _ ← up_to_word (codes "ENDEXT")
+  done (More s)
+statement_by Later w s = check (Err (NotYet w.line))
+statement_by End w s = do
+  _ ← the_word (codes "DESIGN")
+  done (Done s)
+statement_by Other w s = check (Err (Unknown w.line))
+
+unfoldable pub statement : Parsed → Form DefError (Turn Parsed)
+statement s = do
+  w ← next
+  statement_by (statement_of w.word) w s
+
+abbrev pub or_none : {A : Type 0} → Option (List A) → List A
+or_none None = []
+or_none (Some items) = items
+
+abbrev pub units_or_missing : Option ℕ → Result ℕ DefError
+units_or_missing None = Err (Missing (codes "units"))
+units_or_missing (Some units) = Ok units
+
+-- what was read is in range
+pub record IsParsed (s : Parsed) : Type 0 where
+  pub units : IfSome s.units (λ n. (1 ≤ n) × (n ≤ 1000000))
+  pub die : IfSome s.die (AreSidesWithin (2 ^ 30))
+  pub tracks : All IsTrackRow s.tracks
+  pub pins : All IsIoPin (or_none s.pins)
+  pub pin_names : AreNamedApart (λ (p : IoPin). p.name) (or_none s.pins)
+  pub pin_count : length (or_none s.pins) < 2 ^ 32
+  pub nets : All IsDefNet (or_none s.nets)
+  pub net_names : AreNamedApart (λ (n : DefNet). n.name) (or_none s.nets)
+  pub net_count : length (or_none s.nets) < 2 ^ 32
+
+-- what a text says, at its end
+abbrev pub finished_of : Option ℕ → Option Sides → Parsed → Result Def DefError
+finished_of None sides s = Err (Missing (codes "units"))
+finished_of (Some units) None s = Err (Missing (codes "die-area"))
+finished_of (Some units) (Some sides) s = Ok (record {
+  units = units;
+  die = sides;
+  tracks = s.tracks;
+  vias = [];
+  components = [];
+  pins = or_none s.pins;
+  blockages = [];
+  special = [];
+  nets = or_none s.nets;
+  skipped = s.skipped;
+})
+
+abbrev pub finished : Parsed → Result Def DefError
+finished s = finished_of s.units s.die s
+
+-- the whole text
+unfoldable pub a_def : Form DefError Def
+a_def = do
+  s ← loop statement nothing_read
+  check (finished s)
+
+abbrev pub def_form : Form DefError Def
+def_form = whole a_def
+
+-- ---- the units, which stand in a beginning of the text
+
+-- reading stops behind UNITS
+abbrev pub stop_where : Option ℕ → Parsed → Turn Parsed
+stop_where None s = More s
+stop_where (Some units) s = Done s
+
+abbrev pub stop_at_units : Turn Parsed → Turn Parsed
+stop_at_units (Done s) = Done s
+stop_at_units (More s) = stop_where s.units s
+
+unfoldable pub until_units : Parsed → Form DefError (Turn Parsed)
+until_units s = do
+  t ← statement s
+  done (stop_at_units t)
+
+-- statements up to and including UNITS, or up to END DESIGN
+unfoldable pub units_form : Form DefError ℕ
+units_form = do
+  s ← loop until_units nothing_read
+  check (units_or_missing s.units)
