@@ -1,0 +1,20 @@
+//! The reader of LEF: a library text in the numbers of a DEF, or its first fault.
+#![tactic(auto)]
+
+mod error;
+mod layer_words;
+mod layers;
+mod lef;
+mod library;
+mod numbers;
+mod read;
+mod statement_words;
+#[cfg(test)]
+mod tests;
+mod text;
+mod via_words;
+mod vias;
+
+pub use error::{LefError, What};
+pub use lef::{Lef, Macro};
+pub use read::{read_lef, read_lef_tokens};
