@@ -30,3 +30,10 @@ rect_number OnWire = 0
 -- by rectangle, and then by vertex
 abbrev pub IsEntryBefore : Entry → Entry → Type 0
 IsEntryBefore e f = (rect_number e.kind < rect_number f.kind) ⊎ ((rect_number e.kind ≡ rect_number f.kind) × IsVertexBefore e.vertex f.vertex)
+
+-- an entry in a rectangle of a pin, and one by a stub
+abbrev pub pin_entry : ℕ → Vertex → Entry
+pin_entry pin v = record { vertex = v; kind = AtPin pin }
+
+abbrev pub stub_entry : ℕ → ℕ → Vertex → Entry
+stub_entry pin k v = record { vertex = v; kind = Stub pin k }
