@@ -1,0 +1,6 @@
+pub mod LineLemmas
+pub mod Members
+pub mod NearLemmas
+pub mod OrderLemmas
+pub mod LevelLemmas
+pub mod EntryLemmas

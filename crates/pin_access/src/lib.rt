@@ -1,0 +1,8 @@
+//! Entries of pins: where the wires of a net may start and finish.
+#![tactic(auto)]
+
+mod area;
+mod lines;
+mod listing;
+
+pub use listing::entries;
