@@ -1,4 +1,4 @@
--- What a journal promises: no rule of spacing is broken at any time, each wire is least at its place, and a net is given up only where it has no walk.
+-- What a finished journal promises: no rule of spacing is broken at any time, each wire is least at its place, and a net is given up only where it has no walk.
 use Rattle.std.specs.Prelude.{◌≡◌, ℕ, List, ◌∷◌, ◌++◌, false, not, Contains}
 use Rattle.rt_base.specs.declared.tech.Shape.{Shape}
 use Rattle.rt_base.specs.declared.tech.Tech.{Tech}
@@ -30,7 +30,7 @@ pub record IsClearAtAnyTime (d : Design) (blocks : List Block) : Type 0 where
   pub wires : (before : List Block) → BeginsWith blocks before → BreaksNoRule d (state_of d before)
   pub shapes : NoneConflict d.tech d.fixed → (before : List Block) → BeginsWith blocks before → NoneConflict d.tech (d.fixed ++ standing d (state_of d before))
 
--- no legal walk of the net costs less than this one
+-- the walk is legal, and no legal walk of the net costs less
 abbrev pub IsLeastIn : Design → State → ℕ → Walk → Type 0
 IsLeastIn d s n w = IsLeast d s (hard_reading d s) n w
 
@@ -57,3 +57,4 @@ pub record IsHeadline (d : Design) (blocks : List Block) : Type 0 where
   pub clear : IsClearAtAnyTime d blocks
   pub least : IsLeastAtItsPlace d blocks
   pub stuck : IsStuckForWant d blocks
+  pub marked : AreMarked d blocks

@@ -1,6 +1,6 @@
 //! Routing on one thread.
 ghost use Rattle.std.specs.Prelude.{◌≡◌, All, IfOk};
-ghost use Rattle.ripup.specs.Headline.{AreMarked, BeginsWith, IsHeadline};
+ghost use Rattle.ripup.specs.Headline.{BeginsWith, IsHeadline};
 ghost use Rattle.track_graph.specs.Conditions.{IsBlockOf};
 ghost use Rattle.track_graph.specs.Designs.{IsDesign};
 ghost use Rattle.track_graph.specs.Histories.{IsFinishedHistory, IsHistory};
@@ -25,7 +25,6 @@ pub fn finish(alloc: Global, design: &Design, journal: Journal) -> Result<Journa
     ensures finished { IfOk result (λ j. IsFinishedHistory design.now j.blocks) }
     ensures begins { IfOk result (λ j. BeginsWith j.blocks journal.blocks) }
     ensures headline { IfOk result (λ j. IsHeadline design.now j.blocks) }
-    ensures marked { IfOk result (λ j. AreMarked design.now j.blocks) }
     ensures blocks { IfOk result (λ j. All (IsBlockOf design.now) j.blocks) }
     ensures routed { IfOk result (λ j. IsRouted design.now (state_of design.now j.blocks)) }
 {

@@ -1,16 +1,13 @@
-use Rattle.std.proofs.Common.{◌≡◌, ◌∙◌, ℕ, ◌+◌, ◌<◌, ◌≤◌, ◌^◌, ℤ, pos, List, [], ◌∷◌, All, subst, sym, refl, ap, length, rules, arith, unsigned_abs, lit<, lit≤}
-use Rattle.std.specs.List.{AllPairs}
+use Rattle.std.proofs.Common.{◌≡◌, ◌∙◌, ℕ, pos, List, [], ◌∷◌, subst, refl, arith, lit<, lit≤}
 use Rattle.std.proofs.lemmas.Int.{ints}
 use Rattle.std.proofs.lemmas.List.Elements.{All-nil, All-cons}
-use Rattle.rt_base.specs.declared.tech.Shape.{Shape}
 use Rattle.rt_base.specs.declared.tech.Tech.{Tech}
 use Rattle.rt_base.specs.declared.grid.Grid.{Grid}
 use Rattle.track_graph.specs.declared.design.Design.{Design}
 use Rattle.track_graph.specs.declared.design.Net.{Net}
-use Rattle.track_graph.specs.declared.design.Options.{Options}
 use Rattle.track_graph.specs.declared.design.Tracks.{Tracks}
-use Rattle.track_graph.specs.Designs.{IsTech, AreTracks, IsGrid, AreOptions, IsDesign, IsNet}
-use Rattle.track_graph.specs.Levels.{TrackSystem, track_system_of}
+use Rattle.track_graph.specs.Designs.{IsTech, AreTracks, IsGrid, IsDesign, IsNet}
+use Rattle.track_graph.specs.Levels.{TrackSystem}
 use Rattle.ripup.proofs.one_thread.tests.bare_design.Goals as goal
 
 abbrev bare_tech : Tech
