@@ -189,7 +189,7 @@ lawful_statement_by Later w s = search lawful
 lawful_statement_by End w s = search lawful
 lawful_statement_by Other w s = search lawful
 
-lawful_statement : (s : Parsed) → Lawful (statement s)
+pub lawful_statement : (s : Parsed) → Lawful (statement s)
 unfolding statement
 lawful_statement s = search (lawful, lawful_statement_by)
 
