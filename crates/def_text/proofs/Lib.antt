@@ -5,3 +5,5 @@ pub mod Closes
 pub mod Staying
 pub mod NetCloses
 pub mod Readers
+pub mod UnitsFirst
+pub mod Finishing
