@@ -2,6 +2,7 @@
 use Rattle.std.specs.Prelude.{ℕ, ◌+◌, ◌-◌, ◌*◌, ◌/◌, ◌^◌, ℤ, pos, ◌+ℤ◌, ◌-ℤ◌, ◌≤ℤ◌, neg_ℤ, List, ◌∷◌, unsigned_abs, map}
 use Rattle.std.specs.List.{range_with_len, flat_map}
 use Rattle.rt_base.specs.Sides.{Sides}
+use Rattle.rt_base.specs.declared.geometry.Span.{Span}
 use Rattle.rt_base.specs.declared.tech.LayerNo.{LayerNo}
 use Rattle.rt_shapes.specs.declared.cut_array.Generated.{Generated}
 
@@ -38,24 +39,27 @@ low_end len = neg_ℤ (pos (len / 2))
 abbrev pub high_end : ℕ → ℤ
 high_end len = low_end len +ℤ pos len
 
+-- this range made larger by so much on both sides
+abbrev pub range_of : ℕ → ℤ → Span
+range_of len by = record { lo = low_end len -ℤ by; hi = high_end len +ℤ by }
+
+abbrev pub box_of : Span → Span → Sides
+box_of x y = record { xl = x.lo; yl = y.lo; xh = x.hi; yh = y.hi }
+
 -- all cuts together, made larger by dx on the left and on the right, and by dy below and above
 abbrev pub enclosing : Generated → ℤ → ℤ → Sides
-enclosing form dx dy = record {
-  xl = low_end (width_of form) -ℤ dx;
-  yl = low_end (height_of form) -ℤ dy;
-  xh = high_end (width_of form) +ℤ dx;
-  yh = high_end (height_of form) +ℤ dy;
-}
+enclosing form dx dy = box_of (range_of (width_of form) dx) (range_of (height_of form) dy)
 
 -- where cut k of a row or a column begins
 abbrev pub place_of : ℕ → ℕ → ℤ → ℤ → ℤ
 place_of len k size gap = low_end len +ℤ pos (k * (unsigned_abs size + unsigned_abs gap))
 
+abbrev pub cut_range_of : ℕ → ℕ → ℤ → ℤ → Span
+cut_range_of len k size gap = record { lo = place_of len k size gap; hi = place_of len k size gap +ℤ size }
+
 abbrev pub cut_of : Generated → ℕ → ℕ → Sides
 cut_of form row column =
-    let x = place_of (width_of form) column form.cut.0 form.spacing.0 in
-    let y = place_of (height_of form) row form.cut.1 form.spacing.1 in
-    record { xl = x; yl = y; xh = x +ℤ form.cut.0; yh = y +ℤ form.cut.1 }
+    box_of (cut_range_of (width_of form) column form.cut.0 form.spacing.0) (cut_range_of (height_of form) row form.cut.1 form.spacing.1)
 
 -- the cuts of a row, from the left
 abbrev pub row_of : Generated → ℕ → List (LayerNo × Sides)

@@ -1,3 +1,2 @@
 pub mod Polygons
-pub mod EvenOdd
 pub mod GeneratedVias

@@ -1,5 +1,5 @@
 -- Rectilinear polygons (LEF 5.8, POLYGON of ports, obstructions and vias) and the rectangles that they are cut into.
-use Rattle.std.specs.Prelude.{ℤ, Bool, ◌&&◌, ◌||◌, not, nat_le, int_le, int_lt, if◌then◌else◌, List, [], ◌∷◌, ◌++◌, length, fold}
+use Rattle.std.specs.Prelude.{ℤ, Bool, ◌&&◌, ◌||◌, not, nat_le, int_le, int_lt, ◌<ℤ◌, AllPairs, if◌then◌else◌, List, [], ◌∷◌, ◌++◌, length, fold}
 use Rattle.std.specs.List.{list_all}
 use Rattle.std.specs.Ordering.{int_eq}
 use Rattle.rt_base.specs.Sides.{Sides}
@@ -32,6 +32,9 @@ is_rectilinear_of points = nat_le 4 (length points) && list_all is_straight (edg
 abbrev pub passes : ℤ → Edge → Bool
 passes y e = (int_le e.from.y y && int_lt y e.to.y) || (int_le e.to.y y && int_lt y e.from.y)
 
+abbrev pub IsAscending : List ℤ → Type 0
+IsAscending numbers = AllPairs (λ a b. a <ℤ b) numbers
+
 -- ascending numbers with z among them
 abbrev pub with_number : ℤ → List ℤ → List ℤ
 with_number z [] = z ∷ []
@@ -44,11 +47,15 @@ toggled z (y ∷ ys) = if int_lt z y then z ∷ y ∷ ys else if int_lt y z then
 
 -- the y values of points, each once, ascending
 abbrev pub heights_of : List Point → List ℤ
-heights_of points = fold (λ ys p. with_number p.y ys) [] points
+heights_of points = fold (λ ys (p : Point). with_number p.y ys) [] points
+
+-- the x of an edge that passes y, toggled among these
+abbrev pub crossed : ℤ → List ℤ → Edge → List ℤ
+crossed y xs e = if passes y e then toggled e.from.x xs else xs
 
 -- the x of the edges that pass y, ascending; two on one line cancel out
 abbrev pub crossings_of : ℤ → List Edge → List ℤ
-crossings_of y edges = fold (λ xs (e : Edge). if passes y e then toggled e.from.x xs else xs) [] edges
+crossings_of y edges = fold (crossed y) [] edges
 
 -- between two heights: from the 1st x to the 2nd, from the 3rd to the 4th, and so on
 abbrev pub slab_of : ℤ → ℤ → List ℤ → List Sides

@@ -1,6 +1,7 @@
 //! Shapes that LEF and DEF describe in other ways than by rectangles: polygons and generated vias.
 #![tactic(auto)]
 
+mod ascending;
 mod cut_array;
 mod polygon;
 

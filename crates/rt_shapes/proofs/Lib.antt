@@ -1,0 +1,5 @@
+pub mod Risings
+pub mod Searching
+pub mod Counting
+pub mod CutLemmas
+pub mod SlabLemmas
