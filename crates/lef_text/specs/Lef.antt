@@ -19,6 +19,7 @@ use Rattle.lef_text.specs.Words.{statement_of}
 use Rattle.lef_text.specs.Numbers.{count}
 use Rattle.lef_text.specs.Layers.{layer_statement}
 use Rattle.lef_text.specs.Vias.{via_statement}
+use Rattle.lef_text.specs.Macros.{macro_statement}
 
 -- ---- UNITS
 
@@ -94,7 +95,7 @@ statement_by units lib w statements.Site = site lib
 statement_by units lib w statements.Rule = rule lib
 statement_by units lib w statements.Layer = layer_statement units lib
 statement_by units lib w statements.Via = via_statement units lib
-statement_by units lib w statements.Macro = check (Err (NotYet w.line))
+statement_by units lib w statements.Macro = macro_statement units lib
 statement_by units lib w statements.End = end_of_library lib
 statement_by units lib w statements.Unknown = check (Err (Unknown w.line))
 
