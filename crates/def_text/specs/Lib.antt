@@ -1,0 +1,10 @@
+pub mod Faults
+pub mod Defs
+pub mod Kinds
+pub mod Parts
+pub mod Tracks
+pub mod Sections
+pub mod Pins
+pub mod Nets
+pub mod Texts
+pub mod Clauses

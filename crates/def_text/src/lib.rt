@@ -1,0 +1,19 @@
+//! The reader of DEF.
+#![tactic(auto)]
+
+mod def;
+mod error;
+mod kinds;
+mod nets;
+mod parts;
+mod pins;
+mod read;
+mod sections;
+mod statements;
+#[cfg(test)]
+mod tests;
+mod tracks;
+
+pub use def::{Component, Def, DefNet, DefVia, IoPin, TrackRow};
+pub use error::DefError;
+pub use read::{read_def, read_def_tokens, read_units, read_units_tokens};
