@@ -1,1 +1,2 @@
 pub mod Hulls
+pub mod Headline

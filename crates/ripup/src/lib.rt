@@ -1,7 +1,9 @@
-//! The order in which nets are taken.
+//! The order in which nets are taken, and routing on one thread.
 #![tactic(auto)]
 
 mod extent;
 mod net_order;
+mod one_thread;
 
 pub use net_order::order;
+pub use one_thread::finish;

