@@ -1,0 +1,6 @@
+//! Entries of pins: where the wires of a net may start and finish.
+#![tactic(auto)]
+
+mod listing;
+
+pub use listing::entries;
