@@ -1,2 +1,4 @@
+pub mod ErrorLines
 pub mod Outputs
+pub mod Refusals
 pub mod Words

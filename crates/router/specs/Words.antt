@@ -56,3 +56,7 @@ unless_misfit None repeat names = unless_repeated repeat names
 -- the files of a command line, or its refusal: its form is looked at first, and then whether a name stands twice, `-` included
 abbrev pub command_of : List (List ℕ) → Result FileNames WordsFault
 command_of words = unless_misfit (first_misfit 1 route_form words) (first_repeat 2 [] (drop 1 words)) (names_of words)
+
+-- the words ask for workers: no option can stand yet
+abbrev pub asks_for_workers : List (List ℕ) → Bool
+asks_for_workers words = false

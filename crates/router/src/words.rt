@@ -1,6 +1,6 @@
 //! Command lines.
-ghost use Rattle.std.specs.Prelude.{◌≡◌, ℕ, map, MatchResult, Err, codes, Option, string_bytes, length};
-ghost use Rattle.router.specs.Words.{word_texts, command_of, route_form, first_misfit, first_repeat, this_word};
+ghost use Rattle.std.specs.Prelude.{◌≡◌, ◌≤◌, [], length, MatchResult, Ok, Err};
+ghost use Rattle.router.specs.Words.{word_texts, command_of, route_form, first_misfit, first_repeat, asks_for_workers};
 
 use std::marker::Model;
 use thiserror::Error;
@@ -49,4 +49,45 @@ fn misfit(words: &[String]) -> Option<u32>
         [_, _, _, _, _, _] => None,
         [_, _, _, _, _, _, _, ..] => Some(7),
     }
+}
+
+/// The number of the first of these names that is equal to an earlier one; the first of them is
+/// word 2.
+fn repeat(names: &[String]) -> Option<u32>
+    requires { length names.now ≤ 5 }
+    ensures { result ≡ first_repeat 2 [] (word_texts names.now) }
+{
+    for (i, name) in names.iter().enumerate() {
+        if names[..i].iter().any(|earlier| name.as_str() == earlier.as_str()) {
+            return Some(i as u32 + 2);
+        }
+    }
+    None
+}
+
+/// The files that a command line names. Refuses it by its form first (`Shape`), and then for a name
+/// that stands twice (`SameName`), `-` included, each with the number of the first such word; a
+/// missing word has the number of words plus 1.
+pub fn command(words: &[String]) -> Result<Names<'_>, WordsFault>
+    ensures { MatchResult result (λ names. command_of (word_texts words.now) ≡ Ok names) (λ fault. command_of (word_texts words.now) ≡ Err fault) }
+{
+    if let Some(word) = misfit(words) {
+        return Err(WordsFault::Shape { word });
+    }
+    if let Some(word) = repeat(&words[1..]) {
+        return Err(WordsFault::SameName { word });
+    }
+    Ok(Names {
+        lef: words[1].as_str(),
+        def: words[2].as_str(),
+        out: words[4].as_str(),
+        journal: words[5].as_str(),
+    })
+}
+
+/// Whether a command line asks for workers. None can yet.
+pub fn needs_workers(words: &[String]) -> bool
+    ensures { result ≡ asks_for_workers (word_texts words.now) }
+{
+    false
 }
