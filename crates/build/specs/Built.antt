@@ -1,0 +1,100 @@
+-- The design that LEF and DEF describe (LEF 5.8: LAYER and VIA DEFAULT; DEF 5.8: DIEAREA, TRACKS, PINS, BLOCKAGES and NETS). The kinds of nets, tiles and entries are this project's own.
+use Rattle.std.specs.Prelude.{◌≡◌, ℕ, List, [], ◌∷◌, ◌++◌, IsTrue, true, if◌then◌else◌, nat_lt, ◌↔◌, length, map, flat_map, codes, Contains, AllPairs}
+use Rattle.std.specs.List.{AllZip, enumerate_from}
+use Rattle.rt_base.specs.Sides.{Sides}
+use Rattle.rt_base.specs.declared.grid.Grid.{Grid}
+use Rattle.rt_base.specs.declared.tech.Layer.{Layer}
+use Rattle.rt_base.specs.declared.tech.Owner.{Owner}
+use Rattle.rt_base.specs.declared.tech.Owner.TheVariants.{Nobody}
+use Rattle.rt_base.specs.declared.tech.Shape.{Shape}
+use Rattle.rt_base.specs.declared.tech.Tech.{Tech}
+use Rattle.rt_base.specs.declared.tech.Via.{Via}
+use Rattle.rt_base.specs.declared.walk.Entry.{Entry}
+use Rattle.track_graph.specs.declared.design.Design.{Design}
+use Rattle.track_graph.specs.declared.design.Net.{Net}
+use Rattle.track_graph.specs.declared.design.NetKind.{NetKind}
+use Rattle.track_graph.specs.declared.design.NetKind.TheVariants.{Routable, Single}
+use Rattle.track_graph.specs.declared.design.Options.{Options}
+use Rattle.track_graph.specs.declared.design.Pin.{Pin}
+use Rattle.track_graph.specs.Designs.{IsUsable}
+use Rattle.track_graph.specs.Entries.{IsEntry}
+use Rattle.track_graph.specs.Levels.{TrackSystem}
+use Rattle.track_graph.specs.Metal.{Metal}
+use Rattle.lef_text.specs.declared.lef.Lef.{Lef}
+use Rattle.def_text.specs.declared.def.Def.{Def}
+use Rattle.def_text.specs.declared.def.DefNet.{DefNet}
+use Rattle.def_text.specs.declared.def.IoPin.{IoPin}
+use Rattle.pin_access.specs.EntryOrder.{system_of, IsEntryBefore}
+use Rattle.build.specs.declared.layer_names.LayerNames.{LayerNames}
+use Rattle.build.specs.LookUps.{layer_names_of, metals_of, pin_rects, owner_of}
+use Rattle.build.specs.TrackLines.{AreTracksOf, routing_layers}
+
+-- a via of LEF; routing may use it where it is DEFAULT and its rectangles join two neighbouring levels
+pub record IsViaOfLef (tech : Tech) (said via : Via) : Type 0 where
+  pub name : via.name ≡ said.name
+  pub rects : via.rects ≡ said.rects
+  pub usable : IsTrue via.usable ↔ (IsTrue said.usable × IsUsable tech said.rects)
+
+pub record IsTechOf (lef : Lef) (tech : Tech) : Type 0 where
+  pub layers : tech.layers ≡ lef.layers
+  pub vias : AllZip (IsViaOfLef tech) lef.vias tech.vias
+
+-- rectangles of the input, as fixed shapes of an owner
+abbrev pub fixed_shape : Owner → Metal → Shape
+fixed_shape owner m = record { layer = m.0; rect = m.1; owner = owner; fixed = true }
+
+-- the shapes of rectangles of DEF
+abbrev pub shapes_on : LayerNames → Owner → List (List ℕ × Sides) → List Shape
+shapes_on names owner rects = map (fixed_shape owner) (metals_of names rects)
+
+-- the shapes of a pin of the design, where this function says whose it is
+abbrev pub pin_shapes : LayerNames → (List ℕ → Owner) → IoPin → List Shape
+pin_shapes names whose pin = shapes_on names (whose pin.name) pin.rects
+
+-- the shapes of the pins of the design in file order, then the blockages, which are nobody's
+abbrev pub fixed_of : Lef → Def → List Shape
+fixed_of lef def = flat_map (pin_shapes (layer_names_of lef) (owner_of def.nets)) def.pins ++ shapes_on (layer_names_of lef) Nobody def.blockages
+
+-- a net with fewer than two pins has nothing to be joined
+abbrev pub kind_of : DefNet → NetKind
+kind_of net = if nat_lt (length net.pins) 2 then Single else Routable
+
+-- without guides a net may run anywhere in the die: a box for each level
+abbrev pub whole_guide : Sides → List Layer → List (ℕ × Sides)
+whole_guide die layers = map (λ (l : ℕ × Layer). (l.0, die)) (enumerate_from 0 (routing_layers layers))
+
+-- the entries of pin k of a net
+pub record AreEntriesOf (g : TrackSystem) (k : ℕ) (rects : List Metal) (entries : List Entry) : Type 0 where
+  pub exactly : (e : Entry) → Contains entries e ↔ IsEntry g k rects e
+  pub ordered : AllPairs IsEntryBefore entries
+
+-- pin k of a net, named by this connection
+pub record IsPinOf (lef : Lef) (def : Def) (g : TrackSystem) (named : ℕ × (List ℕ × List ℕ)) (pin : Pin) : Type 0 where
+  pub comp : pin.comp ≡ named.1.0
+  pub name : pin.pin ≡ named.1.1
+  pub rects : pin.rects ≡ metals_of (layer_names_of lef) (pin_rects def.pins named.1.1)
+  pub entries : AreEntriesOf g named.0 pin.rects pin.entries
+
+pub record IsNetOf (lef : Lef) (def : Def) (g : TrackSystem) (said : DefNet) (net : Net) : Type 0 where
+  pub name : net.name ≡ said.name
+  pub pins : AllZip (IsPinOf lef def g) (enumerate_from 0 said.pins) net.pins
+  pub guide : net.guide ≡ whole_guide def.die lef.layers
+  pub kind : net.kind ≡ kind_of said
+  pub close : net.close ≡ said.close
+
+-- LEF's counts of statements that are read and not used, and then DEF's
+abbrev pub skipped_of : Lef → Def → List (List ℕ × ℕ)
+skipped_of lef def = lef.skipped ++ (codes "NETS", def.skipped) ∷ []
+
+abbrev pub grid_of : Def → Options → Grid
+grid_of def options = record { die = def.die; tile = options.tile }
+
+-- the design of LEF, DEF and options
+pub record IsDesignOf (lef : Lef) (def : Def) (chosen : Options) (d : Design) : Type 0 where
+  pub tech : IsTechOf lef d.tech
+  pub tracks : AreTracksOf lef def d.tracks
+  pub grid : d.grid ≡ grid_of def chosen
+  pub nets : AllZip (IsNetOf lef def (system_of d.tech d.tracks def.die)) def.nets d.nets
+  pub fixed : d.fixed ≡ fixed_of lef def
+  pub options : d.options ≡ chosen
+  pub skipped : d.skipped ≡ skipped_of lef def

@@ -1,0 +1,129 @@
+-- What keeps a design from being built, one fault after the other: units, names, tracks and counts.
+use Rattle.std.specs.Prelude.{ℕ, ◌+◌, ◌*◌, ◌-◌, ◌%◌, ◌==◌, List, [], ◌∷◌, Bool, not, if◌then◌else◌, nat_lt, length, fold, sum_by, count_by, max, unsigned_abs, Option, Some, None, unwrap_or}
+use Rattle.std.specs.List.{list_any, enumerate_from}
+use Rattle.std.specs.Option.{option_or}
+use Rattle.rt_base.specs.Sides.{Sides}
+use Rattle.rt_base.specs.Conflict.{same_owner}
+use Rattle.rt_base.specs.Tiles.{columns_of, rows_of, column_of, row_of}
+use Rattle.rt_base.specs.declared.grid.Grid.{Grid}
+use Rattle.rt_base.specs.declared.tech.Layer.{Layer}
+use Rattle.rt_base.specs.declared.tech.Owner.{Owner}
+use Rattle.rt_base.specs.declared.tech.Owner.TheVariants.{Net as OfNet}
+use Rattle.rt_base.specs.declared.tech.Shape.{Shape}
+use Rattle.rt_base.specs.declared.tech.Tech.{Tech}
+use Rattle.rt_base.specs.declared.tech.Via.{Via}
+use Rattle.track_graph.specs.declared.design.Net.{Net}
+use Rattle.track_graph.specs.declared.design.Options.{Options}
+use Rattle.track_graph.specs.declared.design.Pin.{Pin}
+use Rattle.lef_text.specs.declared.lef.Lef.{Lef}
+use Rattle.def_text.specs.declared.def.Def.{Def}
+use Rattle.def_text.specs.declared.def.DefNet.{DefNet}
+use Rattle.def_text.specs.declared.def.IoPin.{IoPin}
+use Rattle.def_text.specs.declared.def.TrackRow.{TrackRow}
+use Rattle.build.specs.declared.error.BuildError.{BuildError}
+use Rattle.build.specs.declared.error.BuildError.TheVariants.{Scale, NoComponent, NoPin, NoLayer, PinTwice, NoTracks, Limit}
+use Rattle.build.specs.declared.error.Limited.{Limited}
+use Rattle.build.specs.declared.error.Limited.TheVariants.{RoutingLayers, UsableVias, Tracks, Nets, FixedShapes, Coordinate, Entries, Tiles, TileShapes}
+use Rattle.build.specs.declared.layer_names.LayerNames.{LayerNames}
+use Rattle.build.specs.LookUps.{layer_names_of, is_known, has_pin, is_io, owner_of}
+use Rattle.build.specs.TrackLines.{is_used, line_count, routing_layers}
+use Rattle.build.specs.Built.{fixed_of, grid_of}
+
+-- the first fault of these
+abbrev pub first_of : List (Option BuildError) → Option BuildError
+first_of [] = None
+first_of (f ∷ fs) = option_or f (first_of fs)
+
+-- the first fault that a test finds in a list
+abbrev pub first_by : {X : Type 0} → (X → Option BuildError) → List X → Option BuildError
+first_by test [] = None
+first_by test (x ∷ xs) = option_or (test x) (first_by test xs)
+
+abbrev pub fault_if : Bool → BuildError → Option BuildError
+fault_if b e = if b then Some e else None
+
+-- DEF's units don't divide LEF's
+abbrev pub scale_fault : Lef → Def → Option BuildError
+scale_fault lef def = fault_if (not (lef.units % def.units == 0)) (Scale lef.units def.units)
+
+-- LEF has no layer of this name
+abbrev pub layer_fault : LayerNames → List ℕ → Option BuildError
+layer_fault names name = fault_if (not (is_known names name)) (NoLayer name)
+
+-- the layers that a TRACKS statement names
+abbrev pub row_fault : LayerNames → TrackRow → Option BuildError
+row_fault names row = first_by (layer_fault names) (unwrap_or row.layers [])
+
+-- the layers of named rectangles
+abbrev pub rects_fault : LayerNames → List (List ℕ × Sides) → Option BuildError
+rects_fault names rects = first_by (λ (r : List ℕ × Sides). layer_fault names r.0) rects
+
+abbrev pub pin_fault : LayerNames → IoPin → Option BuildError
+pin_fault names pin = rects_fault names pin.rects
+
+-- a connection of net n, where this function says whose a pin is: components aren't known yet; PINS has no such pin; the pin is another net's
+abbrev pub connection_fault : List IoPin → (List ℕ → Owner) → ℕ → List ℕ × List ℕ → Option BuildError
+connection_fault pins whose n c = first_of (
+    fault_if (not (is_io c)) (NoComponent c.0)
+    ∷ fault_if (not (has_pin pins c.1)) (NoPin c.1)
+    ∷ fault_if (not (same_owner (whose c.1) (OfNet n))) (PinTwice c.1)
+    ∷ [])
+
+abbrev pub net_fault : List IoPin → (List ℕ → Owner) → ℕ × DefNet → Option BuildError
+net_fault pins whose net = first_by (connection_fault pins whose net.0) net.1.pins
+
+-- a routing layer for which no TRACKS statement is used
+abbrev pub level_fault : List TrackRow → Layer → Option BuildError
+level_fault rows l = fault_if (not (list_any (is_used l) rows)) (NoTracks l.name)
+
+-- a count above its most
+abbrev pub limit_fault : Limited → ℕ → ℕ → Option BuildError
+limit_fault what count most = fault_if (nat_lt most count) (Limit what count most)
+
+-- units, names, and layers without tracks, in file order; and how many routing layers there are
+abbrev pub name_fault : Lef → Def → Option BuildError
+name_fault lef def = first_of (
+    scale_fault lef def
+    ∷ first_by (row_fault (layer_names_of lef)) def.tracks
+    ∷ first_by (pin_fault (layer_names_of lef)) def.pins
+    ∷ rects_fault (layer_names_of lef) def.blockages
+    ∷ first_by (net_fault def.pins (owner_of def.nets)) (enumerate_from 0 def.nets)
+    ∷ first_by (level_fault def.tracks) (routing_layers lef.layers)
+    ∷ limit_fault RoutingLayers (length (routing_layers lef.layers)) 16
+    ∷ [])
+
+-- the greatest distance of a side from 0
+abbrev pub farthest : Sides → ℕ
+farthest s = max (max (unsigned_abs s.xl) (unsigned_abs s.xh)) (max (unsigned_abs s.yl) (unsigned_abs s.yh))
+
+abbrev pub largest_coordinate : List Shape → ℕ
+largest_coordinate shapes = fold (λ (most : ℕ) (s : Shape). max most (farthest s.rect)) 0 shapes
+
+abbrev pub usable_count : Tech → ℕ
+usable_count tech = count_by (λ (v : Via). v.usable) tech.vias
+
+-- usable vias, track lines (level by level, bottom up), nets, shapes of the input and their coordinates
+abbrev pub count_fault : Lef → Def → Tech → Option BuildError
+count_fault lef def tech = first_of (
+    limit_fault UsableVias (usable_count tech) 64
+    ∷ first_by (λ (l : Layer). limit_fault Tracks (line_count l def.tracks) 65536) (routing_layers lef.layers)
+    ∷ limit_fault Nets (length def.nets) 1000000
+    ∷ limit_fault FixedShapes (length (fixed_of lef def)) 4194304
+    ∷ limit_fault Coordinate (largest_coordinate (fixed_of lef def)) 1073741824
+    ∷ [])
+
+-- how many entries the pins of these nets have
+abbrev pub entry_count : List Net → ℕ
+entry_count nets = sum_by (λ (net : Net). sum_by (λ (pin : Pin). length pin.entries) net.pins) nets
+
+-- how many tiles a rectangle meets: so many columns and rows lie between those of its corners
+abbrev pub met_count : Grid → Sides → ℕ
+met_count g s = (column_of g s.xh - column_of g s.xl + 1) * (row_of g s.yh - row_of g s.yl + 1)
+
+-- entries, tiles, and pairs of a tile and a shape that meets it
+abbrev pub size_fault : Lef → Def → Options → List Net → Option BuildError
+size_fault lef def options nets = first_of (
+    limit_fault Entries (entry_count nets) 16777216
+    ∷ limit_fault Tiles (columns_of (grid_of def options) * rows_of (grid_of def options)) 1048576
+    ∷ limit_fault TileShapes (sum_by (λ (s : Shape). met_count (grid_of def options) s.rect) (fixed_of lef def)) 16777216
+    ∷ [])

@@ -1,0 +1,91 @@
+//! Why no design is built.
+ghost use Rattle.std.specs.Prelude.{◌≡◌};
+ghost use Rattle.build.specs.declared.error.BuildError.TheVariants.{Memory as OutOfMemory};
+
+use rt_base::{Memory, Name};
+use thiserror::Error;
+
+/// What is counted against a limit.
+#[derive(Clone, Copy, Debug, PartialEq, Eq, Error)]
+pub enum Limited {
+    /// ROUTING layers of LEF.
+    #[error("routing-layers")]
+    RoutingLayers,
+    /// Usable vias of LEF.
+    #[error("usable-vias")]
+    UsableVias,
+    /// Track lines of one level, as its statements say, equal lines counted each.
+    #[error("tracks")]
+    Tracks,
+    /// Nets of NETS.
+    #[error("nets")]
+    Nets,
+    /// Shapes of the input.
+    #[error("fixed-shapes")]
+    FixedShapes,
+    /// The largest absolute coordinate of a shape of the input.
+    #[error("coordinate")]
+    Coordinate,
+    /// Entries of all pins of all nets.
+    #[error("entries")]
+    Entries,
+    /// Tiles of the die.
+    #[error("tiles")]
+    Tiles,
+    /// Pairs of a tile and a shape of the input that meets it.
+    #[error("tile-shapes")]
+    TileShapes,
+}
+
+/// Why no design is built.
+#[derive(Debug, Drop, Error)]
+pub enum BuildError {
+    /// DEF's database units per micron don't divide LEF's.
+    #[error("the units {def} of DEF don't divide the units {lef} of LEF")]
+    Scale {
+        lef: u32,
+        def: u32,
+    },
+    /// A net names a component. Components aren't read yet, so none is known.
+    #[error("no component {name}")]
+    NoComponent {
+        name: Name,
+    },
+    /// A net names a pin of the design that PINS hasn't.
+    #[error("no pin {name}")]
+    NoPin {
+        name: Name,
+    },
+    /// A statement of DEF names a layer that LEF hasn't.
+    #[error("no layer {name}")]
+    NoLayer {
+        name: Name,
+    },
+    /// Two nets name this pin.
+    #[error("two nets name the pin {name}")]
+    PinTwice {
+        name: Name,
+    },
+    /// No TRACKS statement is used for this routing layer.
+    #[error("layer {layer} has no tracks")]
+    NoTracks {
+        layer: Name,
+    },
+    /// A count is above its most.
+    #[error("{what}: {count} is more than {most}")]
+    Limit {
+        what: Limited,
+        count: u64,
+        most: u64,
+    },
+    #[error("out of memory")]
+    Memory,
+}
+
+impl From<Memory> for BuildError {
+    ghost from_gives = { λ _ e. e ≡ OutOfMemory };
+
+    fn from(_error: Memory) -> BuildError {
+        BuildError::Memory
+    }
+}

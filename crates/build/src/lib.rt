@@ -1,0 +1,11 @@
+//! From what LEF and DEF say to one design, or to the first reason why there is none.
+#![tactic(auto)]
+
+mod design;
+mod error;
+mod layer_names;
+mod track_lines;
+
+pub use design::build;
+pub use error::{BuildError, Limited};
+pub use track_lines::default_tile;
