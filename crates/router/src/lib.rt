@@ -2,10 +2,10 @@
 //! routed design, its journal and its report.
 #![tactic(auto)]
 
-mod error_line;
+mod lines;
 mod refusal;
 mod words;
 
-pub use error_line::error_line;
+pub use lines::error_line;
 pub use refusal::{DEF_MOST, LEF_MOST, Refusal};
 pub use words::{Names, WordsFault};
