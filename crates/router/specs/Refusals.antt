@@ -1,5 +1,9 @@
 -- The statuses of refusals, and the limits of the texts.
 use Rattle.std.specs.Prelude.{ℕ}
+use Rattle.lef_text.specs.declared.error.LefError.{LefError}
+use Rattle.lef_text.specs.declared.error.LefError.TheVariants.{Memory as LefMemory}
+use Rattle.def_text.specs.declared.error.DefError.{DefError}
+use Rattle.def_text.specs.declared.error.DefError.TheVariants.{Memory as DefMemory}
 use Rattle.build.specs.declared.error.BuildError.{BuildError}
 use Rattle.build.specs.declared.error.BuildError.TheVariants.{Scale, NoComponent, NoPin, NoLayer, PinTwice, NoTracks, Limit, Memory as BuildMemory}
 use Rattle.router.specs.declared.refusal.Refusal.{Refusal}
@@ -33,3 +37,16 @@ status_of (Build e) = build_status e
 status_of (Read name) = 8
 status_of (Write name) = 9
 status_of Memory = 10
+
+-- the refusal of a fault: want of memory is one of its own
+abbrev pub of_lef : LefError → Refusal
+of_lef LefMemory = Memory
+of_lef e = Lef e
+
+abbrev pub of_def : DefError → Refusal
+of_def DefMemory = Memory
+of_def e = Def e
+
+abbrev pub of_build : BuildError → Refusal
+of_build BuildMemory = Memory
+of_build e = Build e

@@ -1,5 +1,5 @@
 -- Command lines: `route LEF DEF - OUT JOURNAL`. Words are counted from 1, without the program's name.
-use Rattle.std.specs.Prelude.{ℕ, ◌+◌, Bool, true, List, [], ◌∷◌, ◌++◌, Option, Some, None, Result, Ok, Err, if◌then◌else◌, bytes_eq, codes, drop, slice_get, unwrap_or, map, String, string_bytes}
+use Rattle.std.specs.Prelude.{ℕ, ◌+◌, Bool, true, false, List, [], ◌∷◌, ◌++◌, Option, Some, None, Result, Ok, Err, if◌then◌else◌, bytes_eq, codes, drop, slice_get, unwrap_or, map, String, string_bytes}
 use Rattle.std.specs.List.{list_any}
 use Rattle.std.specs.Global.{Global}
 use Rattle.router.specs.declared.words.WordsFault.{WordsFault}

@@ -3,9 +3,14 @@
 #![tactic(auto)]
 
 mod lines;
+mod outputs;
+mod read;
 mod refusal;
+mod run;
+mod source;
 mod words;
 
 pub use lines::error_line;
 pub use refusal::{DEF_MOST, LEF_MOST, Refusal};
-pub use words::{Names, WordsFault};
+pub use run::{Done, run_serial};
+pub use words::{WordsFault, needs_workers};

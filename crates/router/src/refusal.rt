@@ -1,6 +1,6 @@
 //! Why a run is refused.
 ghost use Rattle.std.specs.Prelude.{◌≡◌};
-ghost use Rattle.router.specs.Refusals.{build_status, status_of};
+ghost use Rattle.router.specs.Refusals.{build_status};
 
 use crate::words::WordsFault;
 use build::BuildError;
@@ -45,6 +45,45 @@ impl From<Memory> for Refusal {
 
     fn from(_error: Memory) -> Refusal {
         Refusal::Memory
+    }
+}
+
+impl From<LefError> for Refusal {
+    ghost use Rattle.router.specs.Refusals.{of_lef};
+
+    ghost from_gives = { λ error e. e ≡ of_lef error };
+
+    fn from(error: LefError) -> Refusal {
+        match error {
+            LefError::Memory => Refusal::Memory,
+            error => Refusal::Lef(error),
+        }
+    }
+}
+
+impl From<DefError> for Refusal {
+    ghost use Rattle.router.specs.Refusals.{of_def};
+
+    ghost from_gives = { λ error e. e ≡ of_def error };
+
+    fn from(error: DefError) -> Refusal {
+        match error {
+            DefError::Memory => Refusal::Memory,
+            error => Refusal::Def(error),
+        }
+    }
+}
+
+impl From<BuildError> for Refusal {
+    ghost use Rattle.router.specs.Refusals.{of_build};
+
+    ghost from_gives = { λ error e. e ≡ of_build error };
+
+    fn from(error: BuildError) -> Refusal {
+        match error {
+            BuildError::Memory => Refusal::Memory,
+            error => Refusal::Build(error),
+        }
     }
 }
 

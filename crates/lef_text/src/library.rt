@@ -1,0 +1,55 @@
+//! What is read so far.
+use crate::lef::Macro;
+use rt_base::{Layer, LayerNo, Name, Rect, Seq, SpacingTable, Via};
+use rt_forms::Names;
+
+/// What is read of a text so far.
+#[derive(Drop)]
+pub struct Library {
+    pub units: u32,
+    pub layers: Seq<Layer>,
+    pub vias: Seq<Via>,
+    pub macros: Seq<Macro>,
+    pub dropped: Seq<Name>,
+    pub skipped: Seq<(Name, u32)>,
+    /// How many sections are counted under `-`.
+    pub sections: u32,
+    /// The name and the direction of the uppermost routing layer; true is horizontal.
+    pub top: Option<(Name, bool)>,
+    pub layer_names: Names,
+    /// The number of each layer of `layer_names`; None where it is dropped.
+    pub numbers: Seq<Option<LayerNo>>,
+    pub via_names: Names,
+    pub macro_names: Names,
+}
+
+/// LAYER TYPE.
+#[derive(Clone, Copy, Debug, PartialEq, Eq)]
+pub enum LayerType {
+    Routing,
+    Cut,
+    Other,
+}
+
+/// The lines of a routing or cut layer so far.
+#[derive(Drop)]
+pub struct LayerLines {
+    pub name: Name,
+    pub routing: bool,
+    /// The last DIRECTION; true is horizontal.
+    pub horizontal: Option<bool>,
+    /// The last WIDTH.
+    pub width: Option<i64>,
+    /// The greatest of the plain spacings and of the table's first entry.
+    pub spacing: Option<i64>,
+    pub table: SpacingTable,
+    pub skipped: u32,
+}
+
+/// The lines of a via so far.
+#[derive(Drop)]
+pub struct ViaLines {
+    /// The last LAYER; `Some(None)` where it is dropped.
+    pub layer: Option<Option<LayerNo>>,
+    pub rects: Seq<(LayerNo, Rect)>,
+}
