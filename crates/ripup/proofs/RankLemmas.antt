@@ -148,7 +148,8 @@ Contains-from_numbers ranks n (k, l, e) =
     let within : k < length ranks = subst (λ (m : ℕ). k < m) (length-map ranks number_of) l in
     (get_or ranks k (0, 0), Contains-get_or ranks k (0, 0) within, sym (get_or-map number_of ranks k (0, 0) n within) ∙ e)
 
-within_nets : (d : Design) (n : ℕ) → IsRoutable d n → n < length d.nets
+-- a routable net is one of the design's
+pub within_nets : (d : Design) (n : ℕ) → IsRoutable d n → n < length d.nets
 within_nets d n h = ⊎_elim
     (λ (l : n < length d.nets). l)
     (λ (past : length d.nets ≤ n). absurd (none_some (ap (λ (o : Option Net). option_map (λ (net : Net). net.kind) o) (sym (slice_get_past d.nets n past)) ∙ h)))

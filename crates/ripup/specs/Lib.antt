@@ -1,2 +1,3 @@
 pub mod Hulls
 pub mod Headline
+pub mod Progress

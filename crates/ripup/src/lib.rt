@@ -4,6 +4,7 @@
 mod extent;
 mod net_order;
 mod one_thread;
+mod progress;
 
 pub use net_order::order;
 pub use one_thread::finish;

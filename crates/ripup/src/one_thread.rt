@@ -7,9 +7,11 @@ ghost use Rattle.track_graph.specs.Histories.{IsFinishedHistory, IsHistory};
 ghost use Rattle.track_graph.specs.NetWalks.{IsRouted};
 ghost use Rattle.track_graph.specs.States.{state_of};
 
+use crate::net_order::order;
+use crate::progress::Progress;
 use rt_base::Memory;
 use std::alloc::Global;
-use track_graph::{Design, Journal};
+use track_graph::{Design, Journal, fold};
 
 /// Goes on with a history until it is finished: the routable nets are taken in their order, and
 /// each gets one least wire after the other until all its pins are joined or it has no legal walk
@@ -26,6 +28,11 @@ pub fn finish(alloc: Global, design: &Design, journal: Journal) -> Result<Journa
     ensures blocks { IfOk result (λ j. All (IsBlockOf design.now) j.blocks) }
     ensures routed { IfOk result (λ j. IsRouted design.now (state_of design.now j.blocks)) }
 {
-    let _ = (alloc, design, journal);
-    Err(Memory)
+    let state = fold(alloc, design, journal.blocks())?;
+    let mut run = Progress { journal, state };
+    for net in order(alloc, design)?.as_slice() {
+        run.route(alloc, design, *net)?;
+    }
+    let Progress { journal, state: _ } = run;
+    Ok(journal)
 }

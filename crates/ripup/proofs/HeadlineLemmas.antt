@@ -1,0 +1,95 @@
+-- What a history promises at each of its blocks.
+use Rattle.std.proofs.Common.{◌≡◌, ◌∙◌, ⊎_elim, ℕ, List, ◌∷◌, ◌++◌, Bool, true, false, ◌&&◌, ◌==◌, not, max, refl, ap, subst, Contains, arith}
+use Rattle.std.proofs.lemmas.Bool.Decides.{nat_tests}
+use Rattle.std.proofs.lemmas.List.Elements.{Contains-append_cases, Contains-append_left}
+use Rattle.rt_base.specs.Conflict.{conflict_of, same_owner, spacing_of, is_near_of}
+use Rattle.rt_base.specs.Geometry.{gap_x, gap_y}
+use Rattle.rt_base.specs.declared.tech.Owner.{Owner}
+use Rattle.rt_base.specs.declared.tech.Owner.TheVariants.{Net as OfNet, Nobody}
+use Rattle.rt_base.specs.declared.tech.Shape.{Shape}
+use Rattle.rt_base.specs.declared.tech.Tech.{Tech}
+use Rattle.track_graph.specs.declared.design.Design.{Design}
+use Rattle.track_graph.specs.declared.history.Block.{Block}
+use Rattle.track_graph.specs.declared.history.State.{State}
+use Rattle.track_graph.specs.Histories.{IsRight, IsHistory}
+use Rattle.track_graph.specs.Rules.{standing, BreaksNoRule}
+use Rattle.track_graph.specs.States.{first_state, state_of}
+use Rattle.track_graph.proofs.Rules.{IsHistory-breaks_no_rule}
+use Rattle.ripup.specs.Headline.{BeginsWith, StandsBehind, NoneConflict, IsClearAtAnyTime, IsLeastAtItsPlace, IsStuckForWant, IsHeadline}
+use Rattle.ripup.proofs.HistoryLemmas.{history-parts}
+
+-- the beginning of a history is one
+IsHistory-begin : (d : Design) (blocks before : List Block) → IsHistory d blocks → BeginsWith blocks before → IsHistory d before
+IsHistory-begin d blocks before h (rest, e) = (history-parts d (first_state d) before rest (subst (IsHistory d) e h)).0
+
+-- each block of a history is right in the state of those before it
+IsHistory-right : (d : Design) (blocks before : List Block) (b : Block) → IsHistory d blocks → StandsBehind blocks before b → IsRight d (state_of d before) b
+IsHistory-right d blocks before b h (rest, e) = (history-parts d (first_state d) before (b ∷ rest) (subst (IsHistory d) e h)).1.0
+
+-- which of two shapes comes first makes no difference
+eq_flip : (m n : ℕ) → (m == n) ≡ (n == m)
+eq_flip m n = grind (arith, nat_tests)
+
+owner_flip : (o p : Owner) → same_owner o p ≡ same_owner p o
+owner_flip (OfNet m) (OfNet n) = eq_flip m n
+owner_flip (OfNet m) Nobody = refl
+owner_flip Nobody (OfNet n) = refl
+owner_flip Nobody Nobody = refl
+
+max_flip : (m n : ℕ) → max m n ≡ max n m
+max_flip m n = omega arith
+
+same_from_test : (m n : ℕ) → (m == n) ≡ true → m ≡ n
+same_from_test m n h = grind (arith, nat_tests)
+
+and_same : (p q n m : Bool) → (p ≡ true → n ≡ m) → (p && q && n) ≡ (p && q && m)
+and_same true q n m h = ap (λ (z : Bool). q && z) (h refl)
+and_same false q n m h = refl
+
+conflict_flip : (tech : Tech) (a b : Shape) → conflict_of tech a b ≡ conflict_of tech b a
+conflict_flip tech a b =
+    let gx : gap_x a.rect b.rect ≡ gap_x b.rect a.rect = max_flip _ _ in
+    let gy : gap_y a.rect b.rect ≡ gap_y b.rect a.rect = max_flip _ _ in
+    let l : (a.layer.0 == b.layer.0) ≡ (b.layer.0 == a.layer.0) = eq_flip _ _ in
+    let o : same_owner a.owner b.owner ≡ same_owner b.owner a.owner = owner_flip a.owner b.owner in
+    and_same (a.layer.0 == b.layer.0) (not (same_owner a.owner b.owner)) _ (is_near_of (gap_x b.rect a.rect) (gap_y b.rect a.rect) (spacing_of tech b.layer))
+    (λ h. let e : a.layer.0 ≡ b.layer.0 = same_from_test a.layer.0 b.layer.0 h in
+    let s : spacing_of tech a.layer ≡ spacing_of tech b.layer = ap (λ (k : ℕ). spacing_of tech (record { 0 = k })) e in
+    rw (gx, gy, s) refl)
+    ∙ ap (λ (z : Bool). z && not (same_owner a.owner b.owner) && is_near_of (gap_x b.rect a.rect) (gap_y b.rect a.rect) (spacing_of tech b.layer)) l
+    ∙ ap (λ (z : Bool). (b.layer.0 == a.layer.0) && not z && is_near_of (gap_x b.rect a.rect) (gap_y b.rect a.rect) (spacing_of tech b.layer)) o
+
+-- where no two fixed shapes conflict and no wire does, no two shapes do
+none_conflict : (d : Design) (s : State) → NoneConflict d.tech d.fixed → BreaksNoRule d s → NoneConflict d.tech (d.fixed ++ standing d s)
+none_conflict d s fixed wires a b ha hb = ⊎_elim
+    (λ (fa : Contains d.fixed a). ⊎_elim
+    (λ (fb : Contains d.fixed b). fixed a b fa fb)
+    (λ (sb : Contains (standing d s) b). conflict_flip d.tech a b ∙ wires b a sb (Contains-append_left d.fixed (standing d s) a fa))
+    (Contains-append_cases d.fixed (standing d s) b hb))
+    (λ (sa : Contains (standing d s) a). wires a b sa hb)
+    (Contains-append_cases d.fixed (standing d s) a ha)
+
+history-clear : (d : Design) (blocks : List Block) → IsHistory d blocks → IsClearAtAnyTime d blocks
+history-clear d blocks h = record {
+  wires = λ before begin. IsHistory-breaks_no_rule d before (IsHistory-begin d blocks before h begin);
+  shapes = λ fixed before begin. none_conflict d (state_of d before) fixed (IsHistory-breaks_no_rule d before (IsHistory-begin d blocks before h begin));
+}
+
+history-least : (d : Design) (blocks : List Block) → IsHistory d blocks → IsLeastAtItsPlace d blocks
+history-least d blocks h = record {
+  wire = λ before n w stands. (IsHistory-right d blocks before _ h stands).walk;
+  rip_for = λ before n soft ripped w stands. (IsHistory-right d blocks before _ h stands).walk;
+}
+
+history-stuck : (d : Design) (blocks : List Block) → IsHistory d blocks → IsStuckForWant d blocks
+history-stuck d blocks h before n stands =
+    let right = IsHistory-right d blocks before _ h stands in
+    record { hard = right.none; soft = right.soft_none }
+
+-- a history keeps what a journal promises
+pub IsHistory-headline : (d : Design) (blocks : List Block) → IsHistory d blocks → IsHeadline d blocks
+IsHistory-headline d blocks h = record {
+  clear = history-clear d blocks h;
+  least = history-least d blocks h;
+  stuck = history-stuck d blocks h;
+}
