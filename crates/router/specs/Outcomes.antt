@@ -61,13 +61,13 @@ IsDefFileRefusal told name _ = ⊥
 
 -- DEF has so many units to the micron, and LEF says this in them
 pub record SaysLef (lef def : Source) (units : ℕ) (l : LefValue) : Type 0 where
-  pub units : Begins units_form (lexemes def.text def.tokens) units
-  pub lef : IsText (lef_form units) lef.text lef.tokens l
+  pub has_units : Begins units_form (lexemes def.text def.tokens) units
+  pub lef_says : IsText (lef_form units) lef.text lef.tokens l
 
 -- and DEF says this
 pub record SaysBoth (lef def : Source) (units : ℕ) (l : LefValue) (d : DefValue) : Type 0 where
-  pub lef : SaysLef lef def units l
-  pub def : IsText def_form def.text def.tokens d
+  pub in_units : SaysLef lef def units l
+  pub def_says : IsText def_form def.text def.tokens d
 
 -- the options of a command line without any
 abbrev pub options_of : LefValue → DefValue → Options
@@ -98,8 +98,8 @@ IsTextRefusal lef def _ = ⊥
 
 -- both files are cut into tokens
 pub record AreSources (told : Option Files) (names : FileNames) (lef def : Source) : Type 0 where
-  pub lef : IsSource told names.lef lef_most lef
-  pub def : IsSource told names.def def_most def
+  pub lef_source : IsSource told names.lef lef_most lef
+  pub def_source : IsSource told names.def def_most def
 
 -- a file of LEF and a file of DEF, whose text is this, give the design
 pub record IsDesigned (told : Option Files) (names : FileNames) (text : List ℕ) (d : Design) : Type 0 where

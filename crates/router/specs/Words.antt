@@ -2,6 +2,7 @@
 use Rattle.std.specs.Prelude.{ℕ, ◌+◌, Bool, true, false, List, [], ◌∷◌, ◌++◌, Option, Some, None, Result, Ok, Err, if◌then◌else◌, bytes_eq, codes, drop, slice_get, unwrap_or, map, String, string_bytes}
 use Rattle.std.specs.List.{list_any}
 use Rattle.std.specs.Global.{Global}
+use Rattle.router.specs.declared.words.Names.{Names}
 use Rattle.router.specs.declared.words.WordsFault.{WordsFault}
 use Rattle.router.specs.declared.words.WordsFault.TheVariants.{Shape, SameName}
 
@@ -11,6 +12,10 @@ pub record FileNames : Type 0 where
   pub def : List ℕ
   pub out : List ℕ
   pub journal : List ℕ
+
+-- what the names of a command line are
+abbrev pub names_in : Names → FileNames
+names_in names = record { lef = string_bytes names.lef.now; def = string_bytes names.def.now; out = string_bytes names.out.now; journal = string_bytes names.journal.now }
 
 abbrev pub word_texts : List (String Global) → List (List ℕ)
 word_texts words = map string_bytes words

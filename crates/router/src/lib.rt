@@ -8,6 +8,8 @@ mod read;
 mod refusal;
 mod run;
 mod source;
+#[cfg(test)]
+mod tests;
 mod words;
 
 pub use lines::error_line;

@@ -8,6 +8,7 @@ ghost use Rattle.router.specs.Outcomes.{AreDesign, IsDesigned, IsSource, IsTextR
 ghost use Rattle.router.specs.Outputs.{shelf_at};
 ghost use Rattle.router.specs.Runs.{Cause};
 ghost use Rattle.router.specs.Made.{IsReady};
+ghost use Rattle.router.specs.Words.{names_in};
 ghost use Rattle.router.specs.Sources.{IsSized, IsLefFileCause, IsDefFileCause};
 
 use crate::refusal::{DEF_MOST, LEF_MOST, Refusal};
@@ -125,15 +126,15 @@ pub(crate) fn read_design<F: Shelf>(
     files: &mut F,
     names: &Names<'_>,
 ) -> Result<Read, Refusal>
-    ensures design { IfOk result (λ read. IsDesigned (F.told files.old) names.now read.text read.design) }
+    ensures design { IfOk result (λ read. IsDesigned (F.told files.old) (names_in names.now) read.text read.design) }
     ensures ready { IfOk result (λ read. IsReady read.text read.design) }
-    ensures refusal { IfErr result (λ e. e ≢ OutOfMemory → Cause (shelf_at F.told F.faults files.old) (shelf_at F.told F.faults files.new) names.now e) }
+    ensures refusal { IfErr result (λ e. e ≢ OutOfMemory → Cause (shelf_at F.told F.faults files.old) (shelf_at F.told F.faults files.new) (names_in names.now) e) }
     ensures same { F.told files.new ≡ F.told files.old }
     ensures count { F.faults files.old ≤ F.faults files.new }
     ensures stays_sure { F.sure files.old → F.sure files.new }
 {
-    let lef = take_lef(alloc, files, names.lef)?;
-    let def = take_def(alloc, files, names.def)?;
+    let lef = take_lef(alloc, files, names.lef.as_str())?;
+    let def = take_def(alloc, files, names.def.as_str())?;
     let design = design_of(alloc, &lef, &def)?;
     let Source { text, tokens: _ } = def;
     Ok(Read { text, design })

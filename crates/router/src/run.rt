@@ -2,7 +2,7 @@
 ghost use Rattle.std.specs.Prelude.{◌≡◌, ◌⊎◌, ◌≤◌, ◌==◌, if◌then◌else◌, IfOk, IfErr, OnOk, []};
 ghost use Rattle.shelf.specs.Shelf.{with_file};
 ghost use Rattle.router.specs.declared.refusal.Refusal.TheVariants.{Memory as OutOfMemory, Write as Unwritten};
-ghost use Rattle.router.specs.Words.{word_texts, command_of};
+ghost use Rattle.router.specs.Words.{word_texts, command_of, names_in};
 ghost use Rattle.router.specs.Outputs.{shelf_at, sink_at, with_outputs};
 ghost use Rattle.router.specs.Runs.{moment_at, RefusesWords, Runs, SaysMemory};
 ghost use Rattle.router.specs.Steps.{Ends, EndsRefused, EndsSaid, IsUnput, IsUnputFile, SaysRefusal};
@@ -109,14 +109,14 @@ fn put_outputs<F: Shelf>(
     routed: &[u8],
     lines: &[u8],
 ) -> Result<(), Refusal>
-    ensures ok { OnOk result (F.told files.new ≡ with_outputs (F.told files.old) names.now routed.now lines.now) }
-    ensures err { IfErr result (IsUnput (shelf_at F.told F.faults files.old) (shelf_at F.told F.faults files.new) names.now routed.now lines.now) }
+    ensures ok { OnOk result (F.told files.new ≡ with_outputs (F.told files.old) (names_in names.now) routed.now lines.now) }
+    ensures err { IfErr result (IsUnput (shelf_at F.told F.faults files.old) (shelf_at F.told F.faults files.new) (names_in names.now) routed.now lines.now) }
     ensures count { F.faults files.old ≤ F.faults files.new }
     ensures stays_sure { F.sure files.old → F.sure files.new }
     ensures sure_count { F.sure files.old → F.faults files.new ≡ F.faults files.old }
 {
-    put(alloc, files, names.out, routed)?;
-    put(alloc, files, names.journal, lines)
+    put(alloc, files, names.out.as_str(), routed)?;
+    put(alloc, files, names.journal.as_str(), lines)
 }
 
 /// Ends a run of which an output could not be put.
@@ -174,7 +174,7 @@ fn write_outputs<F: Shelf, K: Sink>(
     files: &mut F,
     out: &mut K,
 ) -> Done
-    ensures ends { Ends names.now outputs (moment_at F.told F.faults K.text K.faults files.old out.old) (moment_at F.told F.faults K.text K.faults files.new out.new) result }
+    ensures ends { Ends (names_in names.now) outputs (moment_at F.told F.faults K.text K.faults files.old out.old) (moment_at F.told F.faults K.text K.faults files.new out.new) result }
 {
     let Outputs {
         journal,
@@ -196,7 +196,7 @@ fn run_route<F: Shelf, K: Sink>(
     files: &mut F,
     out: &mut K,
 ) -> Done
-    ensures runs { Runs names.now (moment_at F.told F.faults K.text K.faults files.old out.old) (moment_at F.told F.faults K.text K.faults files.new out.new) result }
+    ensures runs { Runs (names_in names.now) (moment_at F.told F.faults K.text K.faults files.old out.old) (moment_at F.told F.faults K.text K.faults files.new out.new) result }
 {
     let read = match read_design(alloc, files, names) {
         Ok(read) => read,

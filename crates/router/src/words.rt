@@ -1,8 +1,8 @@
 //! Command lines.
-ghost use Rattle.std.specs.Prelude.{◌≡◌, ◌≤◌, [], length, MatchResult, Ok, Err};
-ghost use Rattle.router.specs.Words.{word_texts, command_of, route_form, first_misfit, first_repeat, asks_for_workers};
+ghost use Rattle.std.specs.Prelude.{◌≡◌, ◌≤◌, [], length, MatchResult, Ok, Err, bytes_eq, string_bytes};
+ghost use Rattle.std.specs.List.{list_any};
+ghost use Rattle.router.specs.Words.{word_texts, command_of, route_form, first_misfit, first_repeat, asks_for_workers, names_in};
 
-use std::marker::Model;
 use thiserror::Error;
 
 /// What is wrong with a command line. Words are counted from 1, without the program's name.
@@ -19,18 +19,10 @@ pub enum WordsFault {
 /// The files that a command line names.
 #[derive(Debug, Drop)]
 pub struct Names<'a> {
-    pub lef: &'a str,
-    pub def: &'a str,
-    pub out: &'a str,
-    pub journal: &'a str,
-}
-
-impl<'a> Model for Names<'a> {
-    ghost use Rattle.router.specs.Words.{FileNames};
-
-    ghost Value = { FileNames };
-
-    ghost view = { λ n. record { lef = n.lef.now; def = n.def.now; out = n.out.now; journal = n.journal.now } };
+    pub lef: &'a String,
+    pub def: &'a String,
+    pub out: &'a String,
+    pub journal: &'a String,
 }
 
 /// The number of the first word that doesn't fit the command `route LEF DEF - OUT JOURNAL`.
@@ -51,6 +43,13 @@ fn misfit(words: &[String]) -> Option<u32>
     }
 }
 
+/// Whether a name is one of these.
+fn is_among(name: &String, names: &[String]) -> bool
+    ensures { result ≡ list_any (λ other. bytes_eq (string_bytes name.now) (string_bytes other)) names.now }
+{
+    names.iter().any(|other| name.as_str() == other.as_str())
+}
+
 /// The number of the first of these names that is equal to an earlier one; the first of them is
 /// word 2.
 fn repeat(names: &[String]) -> Option<u32>
@@ -58,7 +57,7 @@ fn repeat(names: &[String]) -> Option<u32>
     ensures { result ≡ first_repeat 2 [] (word_texts names.now) }
 {
     for (i, name) in names.iter().enumerate() {
-        if names[..i].iter().any(|earlier| name.as_str() == earlier.as_str()) {
+        if is_among(name, &names[..i]) {
             return Some(i as u32 + 2);
         }
     }
@@ -69,7 +68,7 @@ fn repeat(names: &[String]) -> Option<u32>
 /// that stands twice (`SameName`), `-` included, each with the number of the first such word; a
 /// missing word has the number of words plus 1.
 pub fn command(words: &[String]) -> Result<Names<'_>, WordsFault>
-    ensures { MatchResult result (λ names. command_of (word_texts words.now) ≡ Ok names) (λ fault. command_of (word_texts words.now) ≡ Err fault) }
+    ensures { MatchResult result (λ names. command_of (word_texts words.now) ≡ Ok (names_in names)) (λ fault. command_of (word_texts words.now) ≡ Err fault) }
 {
     if let Some(word) = misfit(words) {
         return Err(WordsFault::Shape { word });
@@ -78,10 +77,10 @@ pub fn command(words: &[String]) -> Result<Names<'_>, WordsFault>
         return Err(WordsFault::SameName { word });
     }
     Ok(Names {
-        lef: words[1].as_str(),
-        def: words[2].as_str(),
-        out: words[4].as_str(),
-        journal: words[5].as_str(),
+        lef: &words[1],
+        def: &words[2],
+        out: &words[4],
+        journal: &words[5],
     })
 }
 
