@@ -11,12 +11,13 @@ use Rattle.rt_base.specs.declared.tech.Tech.{Tech}
 use Rattle.track_graph.specs.declared.design.Design.{Design}
 use Rattle.track_graph.specs.declared.history.Block.{Block}
 use Rattle.track_graph.specs.declared.history.State.{State}
-use Rattle.track_graph.specs.Histories.{IsRight, IsHistory}
+use Rattle.track_graph.specs.Histories.{IsFinishedHistory, IsRight, IsHistory}
 use Rattle.track_graph.specs.Rules.{standing, BreaksNoRule}
 use Rattle.track_graph.specs.States.{first_state, state_of}
 use Rattle.track_graph.proofs.Rules.{IsHistory-breaks_no_rule}
 use Rattle.ripup.specs.Headline.{BeginsWith, StandsBehind, NoneConflict, IsClearAtAnyTime, IsLeastAtItsPlace, IsStuckForWant, IsHeadline}
 use Rattle.ripup.proofs.HistoryLemmas.{history-parts}
+use Rattle.ripup.proofs.MarkLemmas.{IsFinishedHistory-marked}
 
 -- the beginning of a history is one
 IsHistory-begin : (d : Design) (blocks before : List Block) → IsHistory d blocks → BeginsWith blocks before → IsHistory d before
@@ -86,10 +87,11 @@ history-stuck d blocks h before n stands =
     let right = IsHistory-right d blocks before _ h stands in
     record { hard = right.none; soft = right.soft_none }
 
--- a history keeps what a journal promises
-pub IsHistory-headline : (d : Design) (blocks : List Block) → IsHistory d blocks → IsHeadline d blocks
-IsHistory-headline d blocks h = record {
-  clear = history-clear d blocks h;
-  least = history-least d blocks h;
-  stuck = history-stuck d blocks h;
+-- a finished history keeps what a journal promises
+pub IsFinishedHistory-headline : (d : Design) (blocks : List Block) → IsFinishedHistory d blocks → IsHeadline d blocks
+IsFinishedHistory-headline d blocks h = record {
+  clear = history-clear d blocks h.history;
+  least = history-least d blocks h.history;
+  stuck = history-stuck d blocks h.history;
+  marked = IsFinishedHistory-marked d blocks h;
 }

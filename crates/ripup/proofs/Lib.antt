@@ -4,5 +4,6 @@ pub mod BlockLemmas
 pub mod RoutedLemmas
 pub mod HistoryLemmas
 pub mod HeadlineLemmas
+pub mod MarkLemmas
 pub mod SearchLemmas
 pub mod ProgressLemmas

@@ -1,5 +1,5 @@
--- What a journal promises: no rule of spacing is broken at any time, each wire is least at its place, and a net is given up only where it has no walk.
-use Rattle.std.specs.Prelude.{◌≡◌, ℕ, List, ◌∷◌, ◌++◌, false, Contains}
+-- What a finished journal promises: no rule of spacing is broken at any time, each wire is least at its place, and a net is given up only where it has no walk.
+use Rattle.std.specs.Prelude.{◌≡◌, ℕ, List, ◌∷◌, ◌++◌, false, not, Contains}
 use Rattle.rt_base.specs.declared.tech.Shape.{Shape}
 use Rattle.rt_base.specs.declared.tech.Tech.{Tech}
 use Rattle.rt_base.specs.declared.walk.Walk.{Walk}
@@ -8,9 +8,10 @@ use Rattle.track_graph.specs.declared.design.Design.{Design}
 use Rattle.track_graph.specs.declared.history.Block.{Block}
 use Rattle.track_graph.specs.declared.history.Block.TheVariants.{Wire, Stuck, RipFor}
 use Rattle.track_graph.specs.declared.history.State.{State}
+use Rattle.track_graph.specs.Histories.{all_joined, IsRoutable}
 use Rattle.track_graph.specs.Rules.{standing, BreaksNoRule}
 use Rattle.track_graph.specs.Searches.{hard_reading, soft_reading, IsLeast, NoneLegal}
-use Rattle.track_graph.specs.States.{emptied, state_of}
+use Rattle.track_graph.specs.States.{emptied, net_state, state_of}
 
 -- the blocks begin with these
 abbrev pub BeginsWith : List Block → List Block → Type 0
@@ -29,7 +30,7 @@ pub record IsClearAtAnyTime (d : Design) (blocks : List Block) : Type 0 where
   pub wires : (before : List Block) → BeginsWith blocks before → BreaksNoRule d (state_of d before)
   pub shapes : NoneConflict d.tech d.fixed → (before : List Block) → BeginsWith blocks before → NoneConflict d.tech (d.fixed ++ standing d (state_of d before))
 
--- no legal walk of the net costs less than this one
+-- the walk is legal, and no legal walk of the net costs less
 abbrev pub IsLeastIn : Design → State → ℕ → Walk → Type 0
 IsLeastIn d s n w = IsLeast d s (hard_reading d s) n w
 
@@ -47,7 +48,13 @@ pub record IsLeastAtItsPlace (d : Design) (blocks : List Block) : Type 0 where
 abbrev pub IsStuckForWant : Design → List Block → Type 0
 IsStuckForWant d blocks = (before : List Block) (n : ℕ) → StandsBehind blocks before (Stuck n) → HasNoWalk d (state_of d before) n
 
+-- at the end exactly those routable nets are marked that have a pin that isn't joined, and the mark of each stands among the blocks
+pub record AreMarked (d : Design) (blocks : List Block) : Type 0 where
+  pub exactly : (n : ℕ) → IsRoutable d n → (net_state (state_of d blocks) n).stuck ≡ not (all_joined (net_state (state_of d blocks) n))
+  pub by_block : (n : ℕ) → IsRoutable d n → all_joined (net_state (state_of d blocks) n) ≡ false → (before : List Block) × StandsBehind blocks before (Stuck n)
+
 pub record IsHeadline (d : Design) (blocks : List Block) : Type 0 where
   pub clear : IsClearAtAnyTime d blocks
   pub least : IsLeastAtItsPlace d blocks
   pub stuck : IsStuckForWant d blocks
+  pub marked : AreMarked d blocks

@@ -36,3 +36,6 @@ pub fn finish(alloc: Global, design: &Design, journal: Journal) -> Result<Journa
     let Progress { journal, state: _ } = run;
     Ok(journal)
 }
+
+#[cfg(test)]
+mod tests;

@@ -6,7 +6,7 @@ use Rattle.track_graph.specs.Conditions.{IsBlockOf}
 use Rattle.track_graph.specs.Histories.{IsFinished}
 use Rattle.track_graph.specs.Orders.{IsOrder}
 use Rattle.ripup.specs.Progress.{IsDone}
-use Rattle.ripup.proofs.HeadlineLemmas.{IsHistory-headline}
+use Rattle.ripup.proofs.HeadlineLemmas.{IsFinishedHistory-headline}
 use Rattle.ripup.proofs.HistoryLemmas.{IsHistory-blocks_of, IsHistory-routed}
 use Rattle.ripup.proofs.ProgressLemmas.{IsDone-others, IsFinished-order}
 use Rattle.ripup.proofs.one_thread.finish.Goals as goal
@@ -42,7 +42,7 @@ returns-clause-finished c =
     }
 
 pub returns-clause-headline : goal.returns-clause-headline
-returns-clause-headline c = IsHistory-headline c.args.design.now c.loop-net.run.journal.blocks c.loop-net.invariant.under_way.history
+returns-clause-headline c = IsFinishedHistory-headline c.args.design.now c.loop-net.run.journal.blocks (returns-clause-finished c)
 
 pub returns-clause-blocks : goal.returns-clause-blocks
 returns-clause-blocks c = IsHistory-blocks_of c.args.design.now c.loop-net.run.journal.blocks c.requires.design c.loop-net.invariant.under_way.history
