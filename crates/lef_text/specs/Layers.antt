@@ -1,13 +1,12 @@
 -- LAYER of LEF (LEF/DEF 5.8 Language Reference, LEF LAYER (Cut) and LAYER (Routing)).
-use Rattle.std.specs.Prelude.{ℕ, ◌+◌, ◌%◌, ◌==◌, List, [], ◌∷◌, ◌++◌, length, map, position, Result, Ok, Err, Option, Some, None, ℤ, pos, unsigned_abs, unwrap_or, bytes_eq, codes, slice_get, if◌then◌else◌, Bool, true, false, not, ◌&&◌}
+use Rattle.std.specs.Prelude.{ℕ, ◌+◌, ◌%◌, ◌==◌, List, [], ◌∷◌, ◌++◌, length, Result, Ok, Err, Option, Some, None, ℤ, pos, unsigned_abs, unwrap_or, bytes_eq, codes, if◌then◌else◌, Bool, true, false, not}
 use Rattle.std.specs.Int.{int_max}
 use Rattle.std.specs.List.{list_any}
-use Rattle.rt_base.specs.declared.tech.LayerNo.{LayerNo}
 use Rattle.rt_base.specs.declared.tech.Layer.{Layer}
 use Rattle.rt_base.specs.declared.tech.SpacingTable.{SpacingTable}
 use Rattle.rt_forms.specs.Lexeme.{Place}
 use Rattle.rt_forms.specs.Form.{Form, next, one, admit, check, done, ◌>>=◌, choose, loop, Turn, More, Done}
-use Rattle.rt_forms.specs.Reading.{the_word, semicolon, rest, up_to_word, is_name_word, if_so}
+use Rattle.rt_forms.specs.Reading.{the_word, semicolon, rest, is_name_word, if_so}
 use Rattle.lef_text.specs.declared.error.LefError.{LefError}
 use Rattle.lef_text.specs.declared.error.LefError.TheVariants.{Expected, Unknown, Twice, Refused, LayerWithout, OddWidth, SameDirection, NotYet}
 use Rattle.lef_text.specs.declared.error.What.{What}
@@ -106,13 +105,13 @@ crosses (Some below) name horizontal = if are_same below.1 horizontal then Err (
 abbrev pub is_even : ℤ → Bool
 is_even n = unsigned_abs n % 2 == 0
 
-abbrev pub whole_routing : Option (List ℕ × Bool) → LayerLines → Option What → Result (Unit {0}) LefError
-whole_routing top s (Some what) = Err (LayerWithout s.name what)
-whole_routing top s None = if is_even (unwrap_or s.width (pos 0)) then crosses top s.name (unwrap_or s.horizontal false) else Err (OddWidth s.name)
+abbrev pub whole_routing : Option (List ℕ × Bool) → List ℕ → Option Bool → Option ℤ → Option What → Result (Unit {0}) LefError
+whole_routing top name horizontal width (Some what) = Err (LayerWithout name what)
+whole_routing top name horizontal width None = if is_even (unwrap_or width (pos 0)) then crosses top name (unwrap_or horizontal false) else Err (OddWidth name)
 
 -- the tests at the end of a layer
 abbrev pub whole_layer : Option (List ℕ × Bool) → LayerLines → Result (Unit {0}) LefError
-whole_layer top s = if s.routing then whole_routing top s (lack_of s.horizontal s.width s.spacing) else Ok tt
+whole_layer top s = if s.routing then whole_routing top s.name s.horizontal s.width (lack_of s.horizontal s.width s.spacing) else Ok tt
 
 unfoldable pub end_of_layer : Option (List ℕ × Bool) → LayerLines → Form LefError (Turn LayerLines)
 end_of_layer top s = do

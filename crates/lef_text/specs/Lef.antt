@@ -1,10 +1,11 @@
 -- The whole text (LEF/DEF 5.8 Language Reference, LEF Syntax).
-use Rattle.std.specs.Prelude.{◌≡◌, ◌≢◌, ℕ, ◌+◌, List, [], ◌∷◌, ◌++◌, Result, Ok, Err, IfOk, IfErr, Option, Some, None, bytes_eq, codes, ◌⊎◌}
+use Rattle.std.specs.Prelude.{◌≡◌, ◌≢◌, ℕ, ◌+◌, List, [], ◌∷◌, ◌++◌, Result, Ok, Err, IfOk, IfErr, None, bytes_eq, codes, ◌⊎◌}
 use Rattle.rt_base.specs.declared.token.Token.{Token}
 use Rattle.rt_base.specs.declared.scan.ScanError.{ScanError}
+use Rattle.rt_base.specs.declared.scan.ScanError.TheVariants as scans
 use Rattle.rt_base.specs.Scan.{IsCutInto, Reads as ScansAs}
 use Rattle.rt_forms.specs.Lexeme.{Place}
-use Rattle.rt_forms.specs.Form.{Form, next, one, check, done, ◌>>=◌, choose, loop, Turn, More, Done, text}
+use Rattle.rt_forms.specs.Form.{Form, next, check, done, ◌>>=◌, choose, loop, Turn, More, Done, text}
 use Rattle.rt_forms.specs.Reading.{the_word, a_name, semicolon, rest, up_to_word, up_to_pair, is_name_word}
 use Rattle.rt_forms.specs.Clauses.{Gives, IsText, IsRefused}
 use Rattle.lef_text.specs.declared.error.LefError.{LefError}
@@ -135,6 +136,12 @@ lef units = do
   done (lef_of lib)
 
 -- ---- from bytes
+
+-- want of memory is one, wherever it comes
+abbrev pub scan_fault : ScanError → LefError
+scan_fault scans.Memory = Memory
+scan_fault (scans.UnclosedQuote line) = Scan (scans.UnclosedQuote line)
+scan_fault (scans.NotText line) = Scan (scans.NotText line)
 
 -- the first fault of the text's bytes, or of its words
 abbrev pub IsRefusedText : ℕ → List ℕ → LefError → Type 0

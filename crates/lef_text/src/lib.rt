@@ -3,11 +3,17 @@
 
 mod error;
 mod layer_words;
+mod layers;
 mod lef;
 mod library;
+mod numbers;
 mod read;
 mod statement_words;
+#[cfg(test)]
+mod tests;
+mod text;
 mod via_words;
+mod vias;
 
 pub use error::{LefError, What};
 pub use lef::{Lef, Macro};
