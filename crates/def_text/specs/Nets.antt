@@ -1,5 +1,5 @@
 -- NETS (DEF 5.8, Nets).
-use Rattle.std.specs.Prelude.{ℕ, ◌+◌, List, [], ◌∷◌, ◌++◌, length, Bool, true, false, Result, Ok, Err, Option, bytes_eq, codes, nat_le, not, if◌then◌else◌}
+use Rattle.std.specs.Prelude.{ℕ, ◌+◌, ◌≤◌, All, List, [], ◌∷◌, ◌++◌, length, Bool, true, false, Result, Ok, Err, Option, bytes_eq, codes, nat_le, not, if◌then◌else◌}
 use Rattle.rt_forms.specs.Lexeme.{Place}
 use Rattle.rt_forms.specs.Form.{Form, next, one, look, check, done, ◌>>=◌, choose, loop, unless, Turn, More, Done}
 use Rattle.rt_forms.specs.Reading.{the_word, a_name, is_next, option_rest}
@@ -10,6 +10,7 @@ use Rattle.def_text.specs.declared.kinds.NetOption.TheVariants.{Wiring, Subnet, 
 use Rattle.def_text.specs.declared.def.DefNet.{DefNet}
 use Rattle.def_text.specs.declared.nets.OpenNet.{OpenNet}
 use Rattle.def_text.specs.declared.sections.Listed.{Listed}
+use Rattle.def_text.specs.Defs.{IsConnection}
 use Rattle.def_text.specs.Kinds.{net_option_of}
 use Rattle.def_text.specs.Sections.{new_name}
 
@@ -19,11 +20,11 @@ joined_by_must w = if bytes_eq w.word (codes "MUSTJOIN") then Err (Refused w.lin
 
 -- a third connection isn't built yet
 abbrev pub third : List (List ℕ × List ℕ) → Place → Result (Unit {0}) DefError
-third pins open_ = if nat_le 2 (length pins) then Err (NotYet open_.line) else Ok tt
+third pins first = if nat_le 2 (length pins) then Err (NotYet first.line) else Ok tt
 
 -- connections to pins of components aren't built yet
 abbrev pub io_alone : Place → Place → Result (Unit {0}) DefError
-io_alone open_ w = if bytes_eq w.word (codes "PIN") then Ok tt else Err (NotYet open_.line)
+io_alone first w = if bytes_eq w.word (codes "PIN") then Ok tt else Err (NotYet first.line)
 
 -- `)`, or `+` before SYNTHESIZED
 abbrev pub connection_end : Place → Result Bool DefError
@@ -43,13 +44,18 @@ connection_tail = do
 -- `( PIN io [+ SYNTHESIZED] )`
 unfoldable pub connection : List (List ℕ × List ℕ) → Form DefError (Turn (List (List ℕ × List ℕ)))
 connection pins = do
-  open_ ← next
-  _ ← check (third pins open_)
+  first ← next
+  _ ← check (third pins first)
   of ← a_name
-  _ ← check (io_alone open_ of)
+  _ ← check (io_alone first of)
   pin ← a_name
   _ ← connection_tail
   done (More (pins ++ (of.word, pin.word) ∷ []))
+
+-- connections, at most two
+pub record AreFew (pins : List (List ℕ × List ℕ)) : Type 0 where
+  pub all : All IsConnection pins
+  pub few : length pins ≤ 2
 
 -- no further connection
 abbrev pub no_connection : Option Place → Bool
@@ -59,7 +65,7 @@ abbrev pub connections : Form DefError (List (List ℕ × List ℕ))
 connections = loop (unless no_connection connection) []
 
 -- an option behind its `+`
-abbrev pub net_option_by : NetOption → Place → OpenNet → Form DefError (Turn OpenNet)
+abbrev pub net_option_by : NetOption → Place → OpenNet → Form DefError OpenNet
 net_option_by Wiring plus net = check (Err (NotYet plus.line))
 net_option_by Subnet plus net = do
   w ← next
@@ -67,12 +73,12 @@ net_option_by Subnet plus net = do
 net_option_by Rule plus net = do
   _ ← next
   _ ← a_name
-  done (More (record net { skipped = net.skipped + 1 }))
+  done (record net { skipped = net.skipped + 1 })
 net_option_by Unused plus net = do
   _ ← option_rest
-  done (More net)
+  done net
 
-unfoldable pub net_option : Place → OpenNet → Form DefError (Turn OpenNet)
+unfoldable pub net_option : Place → OpenNet → Form DefError OpenNet
 net_option plus net = do
   w ← look
   net_option_by (net_option_of w) plus net
@@ -82,19 +88,21 @@ unfoldable pub more_net : OpenNet → Form DefError (Turn OpenNet)
 more_net net = do
   w ← next
   choose (bytes_eq w.word (codes ";")) (done (Done (record net { close = w.first }))) (
-      choose (bytes_eq w.word (codes "+")) (net_option w net) (
+      choose (bytes_eq w.word (codes "+")) (do
+        net' ← net_option w net
+        done (More net')) (
       check (Err (Expected w.line))))
 
 -- `name` connections options `;`
-unfoldable pub net_item : Listed DefNet → Form DefError (Turn (Listed DefNet))
+unfoldable pub net_item : Listed DefNet → Form DefError (Listed DefNet)
 net_item listed = do
   name ← a_name
   _ ← check (joined_by_must name)
   _ ← check (new_name listed.names name)
   pins ← connections
   net ← loop more_net (record { wiring = []; close = 0; skipped = listed.skipped })
-  done (More (record {
+  done (record {
     names = listed.names ++ name.word ∷ [];
     items = listed.items ++ record { name = name.word; pins = pins; wiring = net.wiring; close = net.close } ∷ [];
     skipped = net.skipped;
-  }))
+  })

@@ -1,7 +1,8 @@
 -- PINS (DEF 5.8, Pins).
-use Rattle.std.specs.Prelude.{List, [], ◌∷◌, ◌++◌, Err, Option, Some, None, pos, bytes_eq, codes, map, if◌then◌else◌}
+use Rattle.std.specs.Prelude.{List, [], ◌∷◌, ◌++◌, Err, Option, Some, None, pos, bytes_eq, codes, map, if◌then◌else◌, ◌^◌, All, IfSome}
 use Rattle.rt_base.specs.Geometry.{hull_of, moved}
 use Rattle.rt_base.specs.Orientations.{placed}
+use Rattle.rt_base.specs.Ranges.{IsPointWithin, AreSidesWithin}
 use Rattle.rt_base.specs.declared.orient.Orient.{Orient}
 use Rattle.rt_base.specs.declared.orient.Orient.TheVariants.{N, W, S, E, FN, FS, FW, FE}
 use Rattle.rt_base.specs.declared.geometry.Point.{Point}
@@ -17,7 +18,7 @@ use Rattle.def_text.specs.declared.kinds.BehindLayer.TheVariants.{Rule, Mask, Po
 use Rattle.def_text.specs.declared.def.IoPin.{IoPin}
 use Rattle.def_text.specs.declared.pins.Ports.{Ports}
 use Rattle.def_text.specs.declared.sections.Listed.{Listed}
-use Rattle.def_text.specs.Defs.{Metal}
+use Rattle.def_text.specs.Defs.{Metal, IsName, IsMetal}
 use Rattle.def_text.specs.Kinds.{pin_option_of, behind_layer}
 use Rattle.def_text.specs.Parts.{a_number, point}
 use Rattle.def_text.specs.Sections.{new_name}
@@ -43,6 +44,15 @@ abbrev pub placed_port : Option (Point × Orient) → List Metal → List Metal
 placed_port None metal = []
 placed_port (Some p) metal = map (placed_metal p.0 p.1) metal
 
+-- a rectangle before its port is placed
+abbrev pub IsUnplaced : Metal → Type 0
+IsUnplaced m = IsName m.0 × AreSidesWithin (2 ^ 30) m.1
+
+pub record ArePorts (ports : Ports) : Type 0 where
+  pub rects : All IsMetal ports.rects
+  pub metal : All IsUnplaced ports.metal
+  pub placed : IfSome ports.placed (λ (p : Point × Orient). IsPointWithin (2 ^ 30) p.0)
+
 -- the last port ends
 abbrev pub all_placed : Ports → List Metal
 all_placed ports = ports.rects ++ placed_port ports.placed ports.metal
@@ -59,7 +69,7 @@ layer_rule Rule = do
   done tt
 
 -- `LAYER l [SPACING v | DESIGNRULEWIDTH v] point point`
-unfoldable pub pin_layer : Ports → Form DefError (Turn Ports)
+unfoldable pub pin_layer : Ports → Form DefError Ports
 pin_layer ports = do
   _ ← next
   layer ← a_name
@@ -67,23 +77,23 @@ pin_layer ports = do
   _ ← layer_rule (behind_layer w)
   p ← point
   q ← point
-  done (More (record ports { metal = ports.metal ++ (layer.word, hull_of p q) ∷ [] }))
+  done (record ports { metal = ports.metal ++ (layer.word, hull_of p q) ∷ [] })
 
 -- `PORT`: the port before it ends
-unfoldable pub pin_port : Ports → Form DefError (Turn Ports)
+unfoldable pub pin_port : Ports → Form DefError Ports
 pin_port ports = do
   _ ← next
-  done (More (record { rects = all_placed ports; metal = []; placed = None }))
+  done (record { rects = all_placed ports; metal = []; placed = None })
 
 -- `PLACED|FIXED|COVER point orient`: the last one counts
-unfoldable pub pin_placed : Ports → Form DefError (Turn Ports)
+unfoldable pub pin_placed : Ports → Form DefError Ports
 pin_placed ports = do
   _ ← next
   at ← point
   orient ← admit orient_of
-  done (More (record ports { placed = Some (at, orient) }))
+  done (record ports { placed = Some (at, orient) })
 
-abbrev pub pin_option_by : PinOption → Ports → Form DefError (Turn Ports)
+abbrev pub pin_option_by : PinOption → Ports → Form DefError Ports
 pin_option_by Layer ports = pin_layer ports
 pin_option_by PortOption ports = pin_port ports
 pin_option_by Placed ports = pin_placed ports
@@ -92,10 +102,10 @@ pin_option_by RefusedInPin ports = do
   check (Err (Refused w.line w.word))
 pin_option_by UnusedInPin ports = do
   _ ← option_rest
-  done (More ports)
+  done ports
 
 -- an option behind its `+`
-unfoldable pub pin_option : Ports → Form DefError (Turn Ports)
+unfoldable pub pin_option : Ports → Form DefError Ports
 pin_option ports = do
   w ← look
   pin_option_by (pin_option_of w) ports
@@ -105,13 +115,15 @@ unfoldable pub more_pin : Ports → Form DefError (Turn Ports)
 more_pin ports = do
   w ← next
   choose (bytes_eq w.word (codes ";")) (done (Done ports)) (
-      choose (bytes_eq w.word (codes "+")) (pin_option ports) (
+      choose (bytes_eq w.word (codes "+")) (do
+        ports' ← pin_option ports
+        done (More ports')) (
       check (Err (Expected w.line))))
 
 -- `name` options `;`
-unfoldable pub pin_item : Listed IoPin → Form DefError (Turn (Listed IoPin))
+unfoldable pub pin_item : Listed IoPin → Form DefError (Listed IoPin)
 pin_item listed = do
   name ← a_name
   _ ← check (new_name listed.names name)
   ports ← loop more_pin (record { rects = []; metal = []; placed = None })
-  done (More (record listed { names = listed.names ++ name.word ∷ []; items = listed.items ++ record { name = name.word; rects = all_placed ports } ∷ [] }))
+  done (record listed { names = listed.names ++ name.word ∷ []; items = listed.items ++ record { name = name.word; rects = all_placed ports } ∷ [] })

@@ -1,5 +1,6 @@
 -- A DEF text: statements and sections in any order, ended by END DESIGN (DEF 5.8, Order of DEF Statements; that any order is admitted is this project's choice).
-use Rattle.std.specs.Prelude.{ℕ, List, [], ◌∷◌, ◌++◌, Result, Ok, Err, Option, Some, None, codes}
+use Rattle.rt_base.specs.Sides.{Sides}
+use Rattle.std.specs.Prelude.{ℕ, List, [], ◌∷◌, ◌++◌, Result, Ok, Err, Option, Some, None, codes, ◌^◌, ◌≤◌, ◌<◌, length, All, IfSome}
 use Rattle.rt_forms.specs.Lexeme.{Place}
 use Rattle.rt_forms.specs.Form.{Form, next, check, done, ◌>>=◌, loop, whole, Turn, More, Done}
 use Rattle.rt_forms.specs.Reading.{the_word, semicolon, rest, up_to_word, up_to_pair}
@@ -7,7 +8,11 @@ use Rattle.def_text.specs.declared.error.DefError.{DefError}
 use Rattle.def_text.specs.declared.error.DefError.TheVariants.{Unknown, Missing, NotYet}
 use Rattle.def_text.specs.declared.kinds.Statement.{Statement}
 use Rattle.def_text.specs.declared.kinds.Statement.TheVariants.{Units, Die, Tracks, Unused, Skipped, Extension, Pins, Nets, Later, End, Other}
+use Rattle.rt_base.specs.Ranges.{AreSidesWithin}
 use Rattle.def_text.specs.declared.def.Def.{Def}
+use Rattle.def_text.specs.declared.def.IoPin.{IoPin}
+use Rattle.def_text.specs.declared.def.DefNet.{DefNet}
+use Rattle.def_text.specs.Defs.{AreNamedApart, IsTrackRow, IsIoPin, IsDefNet}
 use Rattle.def_text.specs.declared.statements.Parsed.{Parsed}
 use Rattle.def_text.specs.Kinds.{statement_of}
 use Rattle.def_text.specs.Parts.{a_count, once}
@@ -89,34 +94,57 @@ abbrev pub units_or_missing : Option ℕ → Result ℕ DefError
 units_or_missing None = Err (Missing (codes "units"))
 units_or_missing (Some units) = Ok units
 
+-- what was read is in range
+pub record IsParsed (s : Parsed) : Type 0 where
+  pub units : IfSome s.units (λ n. (1 ≤ n) × (n ≤ 1000000))
+  pub die : IfSome s.die (AreSidesWithin (2 ^ 30))
+  pub tracks : All IsTrackRow s.tracks
+  pub pins : All IsIoPin (or_none s.pins)
+  pub pin_names : AreNamedApart (λ (p : IoPin). p.name) (or_none s.pins)
+  pub pin_count : length (or_none s.pins) < 2 ^ 32
+  pub nets : All IsDefNet (or_none s.nets)
+  pub net_names : AreNamedApart (λ (n : DefNet). n.name) (or_none s.nets)
+  pub net_count : length (or_none s.nets) < 2 ^ 32
+
 -- what a text says, at its end
+abbrev pub finished_of : Option ℕ → Option Sides → Parsed → Result Def DefError
+finished_of None sides s = Err (Missing (codes "units"))
+finished_of (Some units) None s = Err (Missing (codes "die-area"))
+finished_of (Some units) (Some sides) s = Ok (record {
+  units = units;
+  die = sides;
+  tracks = s.tracks;
+  vias = [];
+  components = [];
+  pins = or_none s.pins;
+  blockages = [];
+  special = [];
+  nets = or_none s.nets;
+  skipped = s.skipped;
+})
+
 abbrev pub finished : Parsed → Result Def DefError
-finished s = elim s.units [
-  | None ↦ Err (Missing (codes "units"))
-  | Some units ↦ elim s.die [
-    | None ↦ Err (Missing (codes "die-area"))
-    | Some sides ↦ Ok (record { units = units; die = sides; tracks = s.tracks; vias = []; components = []; pins = or_none s.pins; blockages = []; special = []; nets = or_none s.nets; skipped = s.skipped })
-  ]
-]
+finished s = finished_of s.units s.die s
 
 -- the whole text
-unfoldable pub def_text : Form DefError Def
-def_text = do
+unfoldable pub a_def : Form DefError Def
+a_def = do
   s ← loop statement nothing_read
   check (finished s)
 
 abbrev pub def_form : Form DefError Def
-def_form = whole def_text
+def_form = whole a_def
 
 -- ---- the units, which stand in a beginning of the text
 
 -- reading stops behind UNITS
+abbrev pub stop_where : Option ℕ → Parsed → Turn Parsed
+stop_where None s = More s
+stop_where (Some units) s = Done s
+
 abbrev pub stop_at_units : Turn Parsed → Turn Parsed
 stop_at_units (Done s) = Done s
-stop_at_units (More s) = elim s.units [
-  | None ↦ More s
-  | Some units ↦ Done s
-]
+stop_at_units (More s) = stop_where s.units s
 
 unfoldable pub until_units : Parsed → Form DefError (Turn Parsed)
 until_units s = do

@@ -1,16 +1,107 @@
 //! DEF texts.
-ghost use Rattle.std.specs.Prelude.{◌≡◌, ◌<◌, ◌^◌, length, IfOk};
+ghost use Rattle.std.specs.Prelude.{◌≡◌, ◌<◌, ◌≤◌, ◌+◌, ◌^◌, length, IfOk, OnOk};
 ghost use Rattle.rt_base.specs.Scan.{IsCutInto};
-ghost use Rattle.rt_forms.specs.Clauses.{ReadsText};
+ghost use Rattle.rt_forms.specs.Clauses.{Reads, Looks, ReadsText};
+ghost use Rattle.rt_forms.specs.Form.{turn, loop};
 ghost use Rattle.def_text.specs.Faults.{def_faults};
 ghost use Rattle.def_text.specs.Defs.{IsDef, AreCloses};
-ghost use Rattle.def_text.specs.Texts.{def_form, units_form};
-ghost use Rattle.def_text.specs.Clauses.{ReadsBeginning, ReadsBytes};
+ghost use Rattle.def_text.specs.Texts.{IsParsed, statement as statement_form, until_units as until_units_form, nothing_read, a_def as a_def_form, def_form, units_form};
+ghost use Rattle.def_text.specs.Clauses.{unread as unread_of, ReadsBeginning, ReadsBytes};
 
 use crate::def::Def;
 use crate::error::DefError;
-use rt_base::Token;
+use crate::parts::Words;
+use crate::statements::{Parsed, finished, statement};
+use rt_base::{Name, ScanError, Seq, Token, tokens};
 use std::alloc::Global;
+
+/// Nothing was read yet.
+fn nothing_read(alloc: Global) -> Parsed
+    ensures value { result ≡ nothing_read }
+    ensures sound { IsParsed result }
+{
+    Parsed {
+        units: None,
+        die: None,
+        tracks: Seq::new(alloc),
+        pins: None,
+        nets: None,
+        skipped: 0,
+    }
+}
+
+/// The statements of a text up to its end.
+fn statements(alloc: Global, words: &mut Words, parsed: &mut Parsed) -> Result<(), DefError>
+    requires sound { IsParsed parsed.old }
+    requires few { parsed.old.skipped + length words.old ≤ 2 ^ 32 }
+    ensures reads { Reads def_faults (λ _. parsed.new) result words.old words.new (loop statement_form parsed.old) }
+    ensures sound { OnOk result (IsParsed parsed.new) }
+{
+    'statements: while !statement(alloc, words, parsed)? {}
+    Ok(())
+}
+
+/// What a text says, up to `END DESIGN`.
+#[tactic(auto, unfolding(crate::specs::Texts::a_def))]
+fn a_def(alloc: Global, words: &mut Words) -> Result<Def, DefError>
+    requires { length words.old ≤ 2 ^ 32 }
+    ensures reads { Reads def_faults (λ x. x) result words.old words.new a_def_form }
+    ensures sound { IfOk result (λ d. IsDef d) }
+{
+    let mut parsed = nothing_read(alloc);
+    statements(alloc, words, &mut parsed)?;
+    finished(alloc, parsed)
+}
+
+/// What a text says, with nothing behind `END DESIGN`.
+fn whole_def(alloc: Global, words: &mut Words) -> Result<Def, DefError>
+    requires { length words.old ≤ 2 ^ 32 }
+    ensures reads { Looks def_faults (λ x. x) result words.old words.new def_form }
+    ensures sound { IfOk result (λ d. IsDef d) }
+{
+    let def = a_def(alloc, words)?;
+    words.end()?;
+    Ok(def)
+}
+
+/// A statement. True where the units stand, or where it was the last.
+#[tactic(auto, unfolding(crate::specs::Texts::until_units))]
+fn until_units(alloc: Global, words: &mut Words, parsed: &mut Parsed) -> Result<bool, DefError>
+    requires sound { IsParsed parsed.old }
+    requires few { parsed.old.skipped + length words.old ≤ 2 ^ 32 }
+    ensures reads { Reads def_faults (λ last. turn last parsed.new) result words.old words.new (until_units_form parsed.old) }
+    ensures sound { OnOk result (IsParsed parsed.new) }
+    ensures few { OnOk result (parsed.new.skipped + length words.new ≤ parsed.old.skipped + length words.old) }
+{
+    let last = statement(alloc, words, parsed)?;
+    Ok(last || parsed.units.is_some())
+}
+
+/// The statements of a text up to its units.
+fn before_units(alloc: Global, words: &mut Words, parsed: &mut Parsed) -> Result<(), DefError>
+    requires sound { IsParsed parsed.old }
+    requires few { parsed.old.skipped + length words.old ≤ 2 ^ 32 }
+    ensures { Reads def_faults (λ _. parsed.new) result words.old words.new (loop until_units_form parsed.old) }
+{
+    'statements: while !until_units(alloc, words, parsed)? {}
+    Ok(())
+}
+
+/// The units of a text.
+#[tactic(auto, unfolding(crate::specs::Texts::units_form))]
+fn the_units(alloc: Global, words: &mut Words) -> Result<u32, DefError>
+    requires { length words.old ≤ 2 ^ 32 }
+    ensures { Reads def_faults (λ x. x) result words.old words.new units_form }
+{
+    let mut parsed = nothing_read(alloc);
+    before_units(alloc, words, &mut parsed)?;
+    match parsed.units {
+        None => Err(DefError::Missing {
+            what: Name::new(alloc, b"units")?,
+        }),
+        Some(units) => Ok(units),
+    }
+}
 
 /// The database units per micron of a text with these tokens, read up to the `;` of UNITS: what
 /// stands behind it isn't looked at. `Missing` comes where `END DESIGN` stands first.
@@ -19,7 +110,8 @@ pub fn read_units_tokens(alloc: Global, text: &[u8], tokens: &[Token]) -> Result
     requires tokens { IsCutInto text.now tokens.now }
     ensures { ReadsBeginning units_form text.now tokens.now result }
 {
-    Err(DefError::Memory)
+    let mut words = Words::new(text, tokens);
+    the_units(alloc, &mut words)
 }
 
 /// What a text with these tokens says.
@@ -30,7 +122,19 @@ pub fn read_def_tokens(alloc: Global, text: &[u8], tokens: &[Token]) -> Result<D
     ensures fits { IfOk result (λ d. IsDef d) }
     ensures closes { IfOk result (λ d. AreCloses (length text.now) d.nets) }
 {
-    Err(DefError::Memory)
+    let mut words = Words::new(text, tokens);
+    whole_def(alloc, &mut words)
+}
+
+/// Why a text has no tokens, as an error of DEF.
+fn unread(error: ScanError) -> DefError
+    ensures { result ≡ unread_of error }
+{
+    match error {
+        ScanError::Memory => DefError::Memory,
+        ScanError::UnclosedQuote { line } => DefError::Scan(ScanError::UnclosedQuote { line }),
+        ScanError::NotText { line } => DefError::Scan(ScanError::NotText { line }),
+    }
 }
 
 /// The database units per micron of a text, as `read_units_tokens` reads them.
@@ -38,7 +142,10 @@ pub fn read_units(alloc: Global, text: &[u8]) -> Result<u32, DefError>
     requires { length text.now < 2 ^ 32 }
     ensures { ReadsBytes (λ tokens r. ReadsBeginning units_form text.now tokens r) text.now result }
 {
-    Err(DefError::Memory)
+    match tokens(alloc, text) {
+        Ok(tokens) => read_units_tokens(alloc, text, tokens.as_slice()),
+        Err(error) => Err(unread(error)),
+    }
 }
 
 /// What a text says, as `read_def_tokens` reads it.
@@ -48,5 +155,8 @@ pub fn read_def(alloc: Global, text: &[u8]) -> Result<Def, DefError>
     ensures fits { IfOk result (λ d. IsDef d) }
     ensures closes { IfOk result (λ d. AreCloses (length text.now) d.nets) }
 {
-    Err(DefError::Memory)
+    match tokens(alloc, text) {
+        Ok(tokens) => read_def_tokens(alloc, text, tokens.as_slice()),
+        Err(error) => Err(unread(error)),
+    }
 }

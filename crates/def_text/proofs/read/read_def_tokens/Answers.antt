@@ -1,0 +1,21 @@
+use Rattle.std.proofs.Common.{arith}
+use Rattle.rt_base.proofs.Scanning.{made_inside}
+use Rattle.rt_forms.proofs.Whole.{reads_text, whole_is}
+use Rattle.def_text.specs.Faults.{def_faults}
+use Rattle.def_text.specs.Texts.{a_def, def_form}
+use Rattle.def_text.proofs.Grammar.{lawful_def}
+use Rattle.def_text.proofs.Closes.{few_cut}
+use Rattle.def_text.proofs.NetCloses.{result_closes}
+use Rattle.def_text.proofs.read.read_def_tokens.Goals as goal
+
+pub new-words-requires : goal.new-words-requires
+new-words-requires c = made_inside c.args.text.now c.args.tokens.now c.requires.tokens.made
+
+pub whole_def-requires : goal.whole_def-requires
+whole_def-requires c = omega (arith, few_cut c.args.text.now c.args.tokens.now c.requires.tokens, c.requires.text, c.new-words.ensures.count)
+
+pub returns-clause-reads : goal.returns-clause-reads
+returns-clause-reads c = reads_text def_faults (λ x. x) def_form lawful_def (whole_is a_def) c.args.text.now c.args.tokens.now _ c.whole_def.result (rw c.new-words.ensures.words at c.whole_def.ensures.reads)
+
+pub returns-clause-closes : goal.returns-clause-closes
+returns-clause-closes c = result_closes c.args.text.now c.args.tokens.now c.whole_def.result c.requires.tokens (reads_text def_faults (λ x. x) def_form lawful_def (whole_is a_def) c.args.text.now c.args.tokens.now _ c.whole_def.result (rw c.new-words.ensures.words at c.whole_def.ensures.reads)).found

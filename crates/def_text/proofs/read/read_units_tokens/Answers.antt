@@ -1,0 +1,16 @@
+use Rattle.std.proofs.Common.{arith}
+use Rattle.rt_base.proofs.Scanning.{made_inside}
+use Rattle.def_text.specs.Texts.{units_form}
+use Rattle.def_text.proofs.Grammar.{lawful_units}
+use Rattle.def_text.proofs.Closes.{few_cut}
+use Rattle.def_text.proofs.Readers.{reads_beginning}
+use Rattle.def_text.proofs.read.read_units_tokens.Goals as goal
+
+pub new-words-requires : goal.new-words-requires
+new-words-requires c = made_inside c.args.text.now c.args.tokens.now c.requires.tokens.made
+
+pub the_units-requires : goal.the_units-requires
+the_units-requires c = omega (arith, few_cut c.args.text.now c.args.tokens.now c.requires.tokens, c.requires.text, c.new-words.ensures.count)
+
+pub returns : goal.returns
+returns c = reads_beginning units_form lawful_units c.args.text.now c.args.tokens.now _ c.the_units.result (rw c.new-words.ensures.words at c.the_units.ensures)
