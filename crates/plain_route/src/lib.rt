@@ -2,5 +2,15 @@
 #![tactic(auto)]
 
 mod answer;
+mod entries;
+mod ground;
+mod guide;
+mod lines;
+mod obstacles;
+mod rows;
+mod steps;
+mod stops;
+mod vertices;
+mod way_back;
 
 pub use answer::plain_search;

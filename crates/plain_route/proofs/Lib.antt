@@ -1,0 +1,12 @@
+pub mod GuideLemmas
+pub mod LineLemmas
+pub mod VertexLemmas
+pub mod OrderLemmas
+pub mod StepLemmas
+pub mod ObstacleLemmas
+pub mod RowLemmas
+pub mod EntryLists
+pub mod RouteLemmas
+pub mod LegalLemmas
+pub mod StopLemmas
+pub mod WayLemmas

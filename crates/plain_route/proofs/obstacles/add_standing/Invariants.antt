@@ -1,0 +1,8 @@
+use Rattle.std.proofs.Common.{◌≡◌, drop, fold}
+use Rattle.track_graph.specs.Rules.{every_net}
+use Rattle.track_graph.specs.States.{standing_from}
+use Rattle.plain_route.specs.Obstacles.{added}
+use Rattle.plain_route.proofs.obstacles.add_standing.Given as goal
+
+abbrev pub invariant-loop-owner : goal.invariant-loop-owner
+invariant-loop-owner l = fold (added l.net) l.rows (standing_from l.design every_net l.owner (drop l.owner l.state.nets)) ≡ fold (added l.net) l.initial.rows (standing_from l.design every_net 0 l.state.nets)
