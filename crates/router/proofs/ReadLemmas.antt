@@ -8,7 +8,7 @@ use Rattle.lef_text.specs.declared.lef.Lef.{Lef as LefValue}
 use Rattle.def_text.specs.declared.def.Def.{Def as DefValue}
 use Rattle.def_text.specs.Defs.{AreCloses as DefCloses}
 use Rattle.def_out.specs.Conditions.{AreCloses}
-use Rattle.build.specs.Built.{IsNetOf, IsDesignOf}
+use Rattle.build.specs.Built.{IsDesignOf}
 use Rattle.def_text.specs.declared.def.DefNet.{DefNet}
 use Rattle.def_text.specs.declared.error.DefError.{DefError}
 use Rattle.def_text.specs.declared.error.DefError.TheVariants.{Memory as DefMemory}
@@ -34,7 +34,7 @@ use Rattle.build.specs.Refusals.{Gives, Refuses}
 use Rattle.build.specs.TrackLines.{default_tile_of}
 use Rattle.router.specs.Words.{FileNames}
 use Rattle.router.specs.Refusals.{lef_most, def_most}
-use Rattle.router.specs.Outcomes.{IsSource, IsDefRefusal, IsTextRefusal, IsTooLong, IsUncut, AreSources, SaysLef, SaysBoth, options_of, AreDesign}
+use Rattle.router.specs.Outcomes.{IsSource, IsDefRefusal, IsTextRefusal, IsTooLong, IsUncut, AreHeld, AreSources, SaysLef, SaysBoth, options_of, AreDesign}
 use Rattle.router.specs.Outputs.{ShelfView}
 use Rattle.router.specs.Runs.{Cause}
 use Rattle.router.specs.Made.{IsReady}
@@ -46,7 +46,7 @@ use Rattle.rt_base.specs.Scan.{Reads, answer_of, IsCutInto}
 use Rattle.shelf.specs.declared.fault.TakeFault.{TakeFault}
 use Rattle.shelf.specs.declared.fault.TakeFault.TheVariants.{Failed as TakeFailed, Long as TakeLong, Memory as TakeMemory}
 use Rattle.shelf.specs.Faults.{HasRisen}
-use Rattle.shelf.specs.Shelf.{Files, HoldsBytes, HoldsAtLeast}
+use Rattle.shelf.specs.Shelf.{Files, HoldsBytes, HoldsAtLeast, IsHeld}
 
 -- ---- files
 
@@ -177,18 +177,18 @@ zip_at R (x ∷ xs) (y ∷ ys) (suc i) d e h k =
 no_net : DefNet
 no_net = record { name = []; pins = []; wiring = []; close = 0 }
 
--- the nets of a design end where those of DEF end
-pub closes_of : (lef : LefValue) (def : DefValue) (g : TrackSystem) (text : List ℕ) (said : List DefNet) (nets : List Net) → AllZip (IsNetOf lef def g) said nets → DefCloses (length text) said → AreCloses text nets
-closes_of lef def g text said nets zip closes = record {
+-- nets that end where those of DEF end
+pub closes_of : (R : DefNet → Net → Type 0) (text : List ℕ) (said : List DefNet) (nets : List Net) → ((a : DefNet) (b : Net) → R a b → b.close ≡ a.close) → AllZip R said nets → DefCloses (length text) said → AreCloses text nets
+closes_of R text said nets close zip closes = record {
   ascending = λ i j d below within.
-      let a : (i < length said) × IsNetOf lef def g (get_or said i no_net) (get_or nets i d) = zip_at (IsNetOf lef def g) said nets i no_net d zip (omega arith) in
-      let b : (j < length said) × IsNetOf lef def g (get_or said j no_net) (get_or nets j d) = zip_at (IsNetOf lef def g) said nets j no_net d zip within in
+      let a : (i < length said) × R (get_or said i no_net) (get_or nets i d) = zip_at R said nets i no_net d zip (omega arith) in
+      let b : (j < length said) × R (get_or said j no_net) (get_or nets j d) = zip_at R said nets j no_net d zip within in
       let ordered = closes.ascending i j no_net below b.0 in
-      omega (arith, ordered, a.1.close, b.1.close);
+      omega (arith, ordered, close _ _ a.1, close _ _ b.1);
   within = λ k d within.
-      let a : (k < length said) × IsNetOf lef def g (get_or said k no_net) (get_or nets k d) = zip_at (IsNetOf lef def g) said nets k no_net d zip within in
+      let a : (k < length said) × R (get_or said k no_net) (get_or nets k d) = zip_at R said nets k no_net d zip within in
       let inside = closes.within k no_net a.0 in
-      omega (arith, inside, a.1.close);
+      omega (arith, inside, close _ _ a.1);
 }
 
 -- a design that was built is ready to be routed
@@ -196,5 +196,14 @@ pub ready_of : (lef : LefValue) (def : DefValue) (tile : ℤ) (text : List ℕ) 
 ready_of lef def tile text d design built closes = record {
   design = design;
   no_rips = ap (λ (o : Options). o.rips) built.options;
-  closes = closes_of lef def _ text def.nets d.nets built.nets closes;
+  closes = closes_of _ text def.nets d.nets (λ a b h. h.close) built.nets closes;
 }
+
+-- no fault comes while LEF is taken
+pub lef_count : (told : Option Files) (names : FileNames) (name : List ℕ) (a b : ℕ) → name ≡ names.lef → AreHeld told names → (IsHeld told name → b ≡ a) → b ≡ a
+lef_count told names name a b is held count = count (subst (λ n. IsHeld told n) (sym is) held.lef_held)
+
+-- nor while DEF is
+pub both_counts : (told mid : Option Files) (names : FileNames) (lef_name def_name : List ℕ) (a b c : ℕ) → lef_name ≡ names.lef → def_name ≡ names.def → mid ≡ told → AreHeld told names → (IsHeld told lef_name → b ≡ a) → (IsHeld mid def_name → c ≡ b) → c ≡ a
+both_counts told mid names lef_name def_name a b c is is' same held first second =
+    second (subst (λ n. IsHeld mid n) (sym is') (subst (λ t. IsHeld t names.def) (sym same) held.def_held)) ∙ first (subst (λ n. IsHeld told n) (sym is) held.lef_held)

@@ -18,7 +18,7 @@ use Rattle.def_text.specs.Faults.{def_faults}
 use Rattle.def_text.specs.Texts.{def_form, units_form}
 use Rattle.build.specs.Refusals.{Gives, Refuses}
 use Rattle.build.specs.TrackLines.{default_tile_of}
-use Rattle.shelf.specs.Shelf.{Files, HoldsBytes, HoldsAtLeast}
+use Rattle.shelf.specs.Shelf.{Files, HoldsBytes, HoldsAtLeast, IsHeld}
 use Rattle.router.specs.declared.source.Source.{Source}
 use Rattle.router.specs.declared.refusal.Refusal.{Refusal}
 use Rattle.router.specs.declared.refusal.Refusal.TheVariants.{Words, LefBytes, DefBytes, Lef, Def, Build, Read, Write, Memory}
@@ -96,6 +96,11 @@ IsTextRefusal lef def _ = ⊥
 
 -- ---- the outcome
 
+-- the shelf tells its files, and LEF and DEF are among them
+pub record AreHeld (told : Option Files) (names : FileNames) : Type 0 where
+  pub lef_held : IsHeld told names.lef
+  pub def_held : IsHeld told names.def
+
 -- both files are cut into tokens
 pub record AreSources (told : Option Files) (names : FileNames) (lef def : Source) : Type 0 where
   pub lef_source : IsSource told names.lef lef_most lef
@@ -132,3 +137,7 @@ pub data Outcome : Type 0 where
 abbrev pub ComesTo : Option Files → FileNames → Outcome → Type 0
 ComesTo told names (Designed d) = (text : List ℕ) × IsDesigned told names text d
 ComesTo told names (Refused r) = IsFirstRefusal told names r
+
+-- one refusal, but for the count of a file that is too long
+abbrev pub AreSame : Refusal → Refusal → Type 0
+AreSame r s = (r ≡ s) ⊎ ((m n : ℕ) × (r ≡ LefBytes m) × (s ≡ LefBytes n)) ⊎ ((m n : ℕ) × (r ≡ DefBytes m) × (s ≡ DefBytes n))

@@ -1,5 +1,5 @@
 -- What a run comes to, and what it leaves: the promise of the whole router.
-use Rattle.std.specs.Prelude.{◌≡◌, ◌⊎◌, ℕ, ◌≤◌, List, [], Option, Bool, ◌||◌, if◌then◌else◌}
+use Rattle.std.specs.Prelude.{◌≡◌, ◌⊎◌, ℕ, ◌≤◌, List, [], Option, Some, Bool, ◌||◌, if◌then◌else◌}
 use Rattle.std.specs.List.{list_any, zip}
 use Rattle.track_graph.specs.declared.design.Design.{Design}
 use Rattle.track_graph.specs.declared.design.Net.{Net}
@@ -136,6 +136,11 @@ pub record Runs (names : FileNames) (before after : Moment) (done : Done) : Type
   pub out_of_memory : done.status ≡ 10 → IsOutOfMemory names before after done
   -- and no other
   pub most : done.status ≤ 10
+
+-- a run answers what its files come to: their first refusal has its status, and a design is routed, unless a fault came in this call or memory ran out
+pub record AnswersExactly (names : FileNames) (before after : Moment) (done : Done) : Type 0 where
+  pub refusals : (files : Files) (r : Refusal) → before.shelf.files ≡ Some files → IsFirstRefusal (Some files) names r → ¬ HasRisen before.shelf.faults after.shelf.faults → (done.status ≡ status_of r) ⊎ (done.status ≡ 10)
+  pub designs : (files : Files) (text : List ℕ) (d : Design) → before.shelf.files ≡ Some files → IsDesigned (Some files) names text d → ¬ HasRisen before.shelf.faults after.shelf.faults → ¬ HasRisen before.sink.faults after.sink.faults → (done.status ≤ 1) ⊎ (done.status ≡ 10)
 
 -- what a run with words that are no command line comes to: status 2, or want of memory, and nothing is touched
 pub record RefusesWords (fault : WordsFault) (before after : Moment) (done : Done) : Type 0 where

@@ -4,7 +4,8 @@ ghost use Rattle.lef_text.specs.IsLef.{IsLef};
 ghost use Rattle.def_text.specs.Defs.{IsDef, AreCloses};
 ghost use Rattle.router.specs.declared.refusal.Refusal.TheVariants.{Memory as OutOfMemory, Read as Unread};
 ghost use Rattle.router.specs.Refusals.{lef_most, def_most};
-ghost use Rattle.router.specs.Outcomes.{AreDesign, IsDesigned, IsSource, IsTextRefusal, SaysLef, SaysBoth};
+ghost use Rattle.router.specs.Outcomes.{AreDesign, IsDesigned, AreHeld, IsSource, IsTextRefusal, SaysLef, SaysBoth};
+ghost use Rattle.shelf.specs.Shelf.{IsHeld};
 ghost use Rattle.router.specs.Outputs.{shelf_at};
 ghost use Rattle.router.specs.Runs.{Cause};
 ghost use Rattle.router.specs.Made.{IsReady};
@@ -93,6 +94,7 @@ fn take_lef<F: Shelf>(alloc: Global, files: &mut F, name: &str) -> Result<Source
     ensures same { F.told files.new ≡ F.told files.old }
     ensures count { F.faults files.old ≤ F.faults files.new }
     ensures stays_sure { F.sure files.old → F.sure files.new }
+    ensures sure_count { F.sure files.old → IsHeld (F.told files.old) name.now → F.faults files.new ≡ F.faults files.old }
 {
     match take_source(alloc, files, name, LEF_MOST) {
         Ok(source) => Ok(source),
@@ -110,6 +112,7 @@ fn take_def<F: Shelf>(alloc: Global, files: &mut F, name: &str) -> Result<Source
     ensures same { F.told files.new ≡ F.told files.old }
     ensures count { F.faults files.old ≤ F.faults files.new }
     ensures stays_sure { F.sure files.old → F.sure files.new }
+    ensures sure_count { F.sure files.old → IsHeld (F.told files.old) name.now → F.faults files.new ≡ F.faults files.old }
 {
     match take_source(alloc, files, name, DEF_MOST) {
         Ok(source) => Ok(source),
@@ -132,6 +135,7 @@ pub(crate) fn read_design<F: Shelf>(
     ensures same { F.told files.new ≡ F.told files.old }
     ensures count { F.faults files.old ≤ F.faults files.new }
     ensures stays_sure { F.sure files.old → F.sure files.new }
+    ensures sure_count { F.sure files.old → AreHeld (F.told files.old) (names_in names.now) → F.faults files.new ≡ F.faults files.old }
 {
     let lef = take_lef(alloc, files, names.lef.as_str())?;
     let def = take_def(alloc, files, names.def.as_str())?;

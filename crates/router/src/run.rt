@@ -3,8 +3,9 @@ ghost use Rattle.std.specs.Prelude.{◌≡◌, ◌⊎◌, ◌≤◌, ◌==◌, i
 ghost use Rattle.shelf.specs.Shelf.{with_file};
 ghost use Rattle.router.specs.declared.refusal.Refusal.TheVariants.{Memory as OutOfMemory, Write as Unwritten};
 ghost use Rattle.router.specs.Words.{word_texts, command_of, names_in};
+ghost use Rattle.router.specs.Outcomes.{AreHeld};
 ghost use Rattle.router.specs.Outputs.{shelf_at, sink_at, with_outputs};
-ghost use Rattle.router.specs.Runs.{moment_at, RefusesWords, Runs, SaysMemory};
+ghost use Rattle.router.specs.Runs.{moment_at, AnswersExactly, RefusesWords, Runs, SaysMemory};
 ghost use Rattle.router.specs.Steps.{Ends, EndsRefused, EndsSaid, IsUnput, IsUnputFile, SaysRefusal};
 
 use crate::lines::error_line;
@@ -175,6 +176,8 @@ fn write_outputs<F: Shelf, K: Sink>(
     out: &mut K,
 ) -> Done
     ensures ends { Ends (names_in names.now) outputs (moment_at F.told F.faults K.text K.faults files.old out.old) (moment_at F.told F.faults K.text K.faults files.new out.new) result }
+    ensures sure_files { F.sure files.old → F.faults files.new ≡ F.faults files.old }
+    ensures sure_out { K.sure out.old → K.faults out.new ≡ K.faults out.old }
 {
     let Outputs {
         journal,
@@ -197,6 +200,8 @@ fn run_route<F: Shelf, K: Sink>(
     out: &mut K,
 ) -> Done
     ensures runs { Runs (names_in names.now) (moment_at F.told F.faults K.text K.faults files.old out.old) (moment_at F.told F.faults K.text K.faults files.new out.new) result }
+    ensures sure_files { F.sure files.old → AreHeld (F.told files.old) (names_in names.now) → F.faults files.new ≡ F.faults files.old }
+    ensures sure_out { K.sure out.old → K.faults out.new ≡ K.faults out.old }
 {
     let read = match read_design(alloc, files, names) {
         Ok(read) => read,
@@ -233,6 +238,9 @@ pub fn run_serial<F: Shelf, K: Sink>(
 ) -> Done
     ensures runs { IfOk (command_of (word_texts words.now)) (λ names. Runs names (moment_at F.told F.faults K.text K.faults files.old out.old) (moment_at F.told F.faults K.text K.faults files.new out.new) result) }
     ensures words { IfErr (command_of (word_texts words.now)) (λ fault. RefusesWords fault (moment_at F.told F.faults K.text K.faults files.old out.old) (moment_at F.told F.faults K.text K.faults files.new out.new) result) }
+    ensures exact { IfOk (command_of (word_texts words.now)) (λ names. AnswersExactly names (moment_at F.told F.faults K.text K.faults files.old out.old) (moment_at F.told F.faults K.text K.faults files.new out.new) result) }
+    ensures sure_files { F.sure files.old → IfOk (command_of (word_texts words.now)) (AreHeld (F.told files.old)) → F.faults files.new ≡ F.faults files.old }
+    ensures sure_out { K.sure out.old → K.faults out.new ≡ K.faults out.old }
 {
     match command(words) {
         Ok(names) => run_route(alloc, &names, files, out),

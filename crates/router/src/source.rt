@@ -2,6 +2,7 @@
 ghost use Rattle.std.specs.Prelude.{◌≡◌, ◌≢◌, ◌<◌, ◌≤◌, ◌^◌, length, Err, IfOk, IfErr};
 ghost use Rattle.rt_base.specs.declared.scan.ScanError.TheVariants.{Memory as OutOfMemory};
 ghost use Rattle.rt_base.specs.Scan.{IsCutInto, Reads};
+ghost use Rattle.shelf.specs.Shelf.{IsHeld};
 ghost use Rattle.router.specs.Outcomes.{IsSource};
 ghost use Rattle.router.specs.Sources.{IsSourceFault};
 
@@ -95,6 +96,7 @@ pub(crate) fn take_source<F: Shelf>(
     ensures same { F.told files.new ≡ F.told files.old }
     ensures count { F.faults files.old ≤ F.faults files.new }
     ensures stays_sure { F.sure files.old → F.sure files.new }
+    ensures sure_count { F.sure files.old → IsHeld (F.told files.old) name.now → F.faults files.new ≡ F.faults files.old }
 {
     let text = files.take(alloc, name, most)?;
     Ok(cut(alloc, text)?)
