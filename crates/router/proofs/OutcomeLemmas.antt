@@ -26,7 +26,7 @@ use Rattle.def_text.specs.Texts.{def_form, units_form}
 use Rattle.def_text.proofs.Grammar.{lawful_def, lawful_units}
 use Rattle.build.specs.declared.error.BuildError.{BuildError}
 use Rattle.build.specs.Refusals.{Gives, Refuses}
-use Rattle.track_graph.specs.declared.design.Options.{Options}
+use Rattle.build.proofs.Uniqueness.{one_refusal, no_refusal}
 use Rattle.shelf.specs.Faults.{HasRisen}
 use Rattle.shelf.specs.Shelf.{Files, HoldsBytes, HoldsAtLeast}
 use Rattle.router.specs.declared.run.Done.{Done}
@@ -38,13 +38,6 @@ use Rattle.router.specs.declared.source.Source.{Source}
 use Rattle.router.specs.Words.{FileNames}
 use Rattle.router.specs.Refusals.{lef_most, def_most, status_of}
 use Rattle.router.specs.Outcomes.{IsSource, IsUncut, IsTooLong, IsLefFileRefusal, IsDefFileRefusal, SaysLef, SaysBoth, options_of, AreDesign, IsDefRefusal, IsTextRefusal, AreSources, IsDesigned, IsDefRefusedFile, AreTextsRefused, IsFirstRefusal, AreSame}
-
--- ---- stubs
-one_refusal : (lef : LefValue) (def : DefValue) (options : Options) (e f : BuildError) → Refuses lef def options e → Refuses lef def options f → e ≡ f
-one_refusal lef def options e f h k = ?
-
-no_refusal : (lef : LefValue) (def : DefValue) (options : Options) (d : Design) (e : BuildError) → Gives lef def options d → Refuses lef def options e → ⊥
-no_refusal lef def options d e h k = ?
 
 -- ---- files
 
