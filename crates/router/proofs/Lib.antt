@@ -1,4 +1,3 @@
-pub mod OutcomeLemmas
 pub mod ReadLemmas
 pub mod RunLemmas
 pub mod WordLemmas
