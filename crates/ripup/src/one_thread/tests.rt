@@ -5,7 +5,7 @@ ghost use Rattle.track_graph.specs.Levels.{TrackSystem};
 use super::*;
 use rt_base::{Grid, Name, Rect, Seq, Tech};
 use std::test::Fail;
-use track_graph::{Net, NetKind, Options, Pin, Tracks};
+use track_graph::{Block, Net, NetKind, Options, Pin, Tracks};
 
 /// A pin without rectangles and entries.
 fn bare_pin(alloc: Global) -> Result<Pin, Memory>
@@ -74,5 +74,14 @@ fn only_routable_nets_are_taken(rt: HostRuntime) -> Result<(), Fail> {
         let journal = finish(alloc, &design, Journal::new(alloc))?;
         assert!(rt; journal.blocks().is_empty());
     }
+    Ok(())
+}
+
+#[test]
+fn a_net_without_entries_is_marked(rt: HostRuntime) -> Result<(), Fail> {
+    let alloc = rt.alloc();
+    let design = bare_design(alloc, NetKind::Routable)?;
+    let journal = finish(alloc, &design, Journal::new(alloc))?;
+    assert!(rt; matches!(journal.blocks(), [Block::Stuck { net: 0 }]));
     Ok(())
 }
