@@ -42,26 +42,24 @@ pub fn is_in_guide(guide: &[(u8, Rect)], level: u8, p: Point) -> bool
     }
 }
 
-/// The point of a row right past x, which is less than the end's.
-fn right_of(at: Point, past: Point, end: Point) -> Point
+/// The point right past another, in the row of the end.
+fn right_of(past: Point, end: Point) -> Point
     requires { past.x <ℤ end.x }
-    ensures { result ≡ record { x = past.x +ℤ pos 1; y = at.y } }
+    ensures { result ≡ record { x = past.x +ℤ pos 1; y = end.y } }
 {
-    let _end = end;
     Point {
         x: past.x + 1,
-        y: at.y,
+        y: end.y,
     }
 }
 
-/// The point of a column right past y, which is less than the end's.
-fn above(at: Point, past: Point, end: Point) -> Point
+/// The point right above another, in the column of the end.
+fn above(past: Point, end: Point) -> Point
     requires { past.y <ℤ end.y }
-    ensures { result ≡ record { x = at.x; y = past.y +ℤ pos 1 } }
+    ensures { result ≡ record { x = end.x; y = past.y +ℤ pos 1 } }
 {
-    let _end = end;
     Point {
-        x: at.x,
+        x: end.x,
         y: past.y + 1,
     }
 }
@@ -77,7 +75,7 @@ fn covers_row(guide: &[(u8, Rect)], level: u8, segment: Rect) -> bool
         if far.x >= end.x {
             return true;
         }
-        at = right_of(at, far, end);
+        at = right_of(far, end);
     }
     false
 }
@@ -93,7 +91,7 @@ fn covers_column(guide: &[(u8, Rect)], level: u8, segment: Rect) -> bool
         if far.y >= end.y {
             return true;
         }
-        at = above(at, far, end);
+        at = above(far, end);
     }
     false
 }

@@ -46,7 +46,7 @@ loop-far-preserved c =
     let next : c.in-Some.far.y +ℤ pos 1 ≡ c.above-at.result.y = sym (ap (λ (p : Point). p.y) c.above-at.ensures) in
     let inv = c.loop-far.invariant in
     record {
-      column = ap (λ (p : Point). p.x) c.above-at.ensures ∙ inv.column;
+      column = ap (λ (p : Point). p.x) c.above-at.ensures ∙ ap (λ (p : Point). p.x) c.high-end.ensures.corner ∙ sym c.requires;
       from = subst (λ (z : ℤ). c.args.segment.yl ≤ℤ z) next (column_later _ _ c.loop-far.at c.in-Some.far c.args.segment.yl h inv.from);
       to = subst (λ (z : ℤ). z ≤ℤ c.args.segment.yh) next (next_within _ _ before_end);
       before = subst (ColumnBefore c.args.guide.now c.args.level c.args.segment) next (column_more _ _ c.args.segment c.loop-far.at c.in-Some.far inv.column inv.before h);

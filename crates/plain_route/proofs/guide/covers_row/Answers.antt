@@ -46,7 +46,7 @@ loop-far-preserved c =
     let next : c.in-Some.far.x +ℤ pos 1 ≡ c.right_of-at.result.x = sym (ap (λ (p : Point). p.x) c.right_of-at.ensures) in
     let inv = c.loop-far.invariant in
     record {
-      row = ap (λ (p : Point). p.y) c.right_of-at.ensures ∙ inv.row;
+      row = ap (λ (p : Point). p.y) c.right_of-at.ensures ∙ ap (λ (p : Point). p.y) c.high-end.ensures.corner ∙ sym c.requires;
       from = subst (λ (z : ℤ). c.args.segment.xl ≤ℤ z) next (row_later _ _ c.loop-far.at c.in-Some.far c.args.segment.xl h inv.from);
       to = subst (λ (z : ℤ). z ≤ℤ c.args.segment.xh) next (next_within _ _ before_end);
       before = subst (RowBefore c.args.guide.now c.args.level c.args.segment) next (row_more _ _ c.args.segment c.loop-far.at c.in-Some.far inv.row inv.before h);
