@@ -147,33 +147,33 @@ runs_ended names before after text d o done designed made ends = elim ends [
         status = status;
       })
   | inr v ↦ elim v [
-      | inl w ↦
-          let routed = made.routed ∙ ap (routed_text text d) (sym w.journal) in
-          let lines = made.lines ∙ ap (journal_lines d) (sym w.journal) in
-          let report = made.report ∙ ap (report_text d) (sym w.journal) in
-          let Fault : List ℕ → List ℕ → List ℕ → Type 0 = λ r l t. IsPutFailed names before after r l ⊎ IsSayFailed names before after r l t in
-          unwritten_runs names before after done w.status (record {
+    | inl w ↦
+        let routed = made.routed ∙ ap (routed_text text d) (sym w.journal) in
+        let lines = made.lines ∙ ap (journal_lines d) (sym w.journal) in
+        let report = made.report ∙ ap (report_text d) (sym w.journal) in
+        let Fault : List ℕ → List ℕ → List ℕ → Type 0 = λ r l t. IsPutFailed names before after r l ⊎ IsSayFailed names before after r l t in
+        unwritten_runs names before after done w.status (record {
+          text = text;
+          design = d;
+          designed = designed;
+          routing = subst (λ (bs : List Block). IsRouting d bs) (sym w.journal) made.routing;
+          fault = subst (λ r. Fault r (journal_lines d done.journal.blocks) (report_text d done.journal.blocks)) routed (subst (λ l. Fault o.routed l (report_text d done.journal.blocks)) lines (subst (λ t. Fault o.routed o.lines t) report w.fault));
+        })
+    | inr w ↦
+        let Left : List ℕ → List ℕ → Type 0 = λ r l. IsPartlyPut before.shelf.files after.shelf.files names r l ⊎ (after.shelf.files ≡ with_outputs before.shelf.files names r l) in
+        memory_runs names before after done w.status (record {
+          said = w.said;
+          files = inr (record {
             text = text;
             design = d;
+            blocks = o.journal.blocks;
             designed = designed;
-            routing = subst (λ (bs : List Block). IsRouting d bs) (sym w.journal) made.routing;
-            fault = subst (λ r. Fault r (journal_lines d done.journal.blocks) (report_text d done.journal.blocks)) routed (subst (λ l. Fault o.routed l (report_text d done.journal.blocks)) lines (subst (λ t. Fault o.routed o.lines t) report w.fault));
-          })
-      | inr w ↦
-          let Left : List ℕ → List ℕ → Type 0 = λ r l. IsPartlyPut before.shelf.files after.shelf.files names r l ⊎ (after.shelf.files ≡ with_outputs before.shelf.files names r l) in
-          memory_runs names before after done w.status (record {
-            said = w.said;
-            files = inr (record {
-              text = text;
-              design = d;
-              blocks = o.journal.blocks;
-              designed = designed;
-              routing = made.routing;
-              files = subst (λ r. Left r (journal_lines d o.journal.blocks)) made.routed (subst (λ l. Left o.routed l) made.lines w.files);
-            });
-            no_blocks = w.no_blocks;
-          })
-    ]
+            routing = made.routing;
+            files = subst (λ r. Left r (journal_lines d o.journal.blocks)) made.routed (subst (λ l. Left o.routed l) made.lines w.files);
+          });
+          no_blocks = w.no_blocks;
+        })
+  ]
 ]
 
 -- ---- steps
@@ -243,9 +243,9 @@ said_line before after refusal status (Err SayMemory) bytes is ne s ok failed pa
 pub memory_behind : (before mid after : SinkView) → mid.text ≡ before.text → before.faults ≤ mid.faults → SaysMemory mid after → SaysMemory before after
 memory_behind before mid after same count said = elim said [
   | inl says ↦ elim says [
-      | inl whole ↦ inl (inl (rw same at whole))
-      | inr part ↦ inl (inr (risen_from before.faults mid.faults after.faults count part.0, rw same at part.1))
-    ]
+    | inl whole ↦ inl (inl (rw same at whole))
+    | inr part ↦ inl (inr (risen_from before.faults mid.faults after.faults count part.0, rw same at part.1))
+  ]
   | inr is ↦ inr (is ∙ same)
 ]
 
@@ -254,9 +254,9 @@ pub ends_said : (names : FileNames) (o : Outputs) (before after : Moment) (done 
 ends_said names o before after done files said = elim said [
   | inl w ↦ inl (record { status = w.0; journal = w.1; files = files; said = w.2 })
   | inr v ↦ elim v [
-      | inl w ↦ inr (inl (record { status = w.0; journal = w.1; fault = inr (record { risen = w.2; files = files; said = w.3 }) }))
-      | inr w ↦ inr (inr (record { status = w.0; no_blocks = w.1; files = inr files; said = w.2 }))
-    ]
+    | inl w ↦ inr (inl (record { status = w.0; journal = w.1; fault = inr (record { risen = w.2; files = files; said = w.3 }) }))
+    | inr w ↦ inr (inr (record { status = w.0; no_blocks = w.1; files = inr files; said = w.2 }))
+  ]
 ]
 
 partly_put : (old new : Option Files) (names : FileNames) (routed journal name : List ℕ) → IsPutFault old new names routed journal name → IsPartlyPut old new names routed journal
@@ -300,17 +300,17 @@ pub ends_from : (names : FileNames) (o : Outputs) (s : ShelfView) (k : SinkView)
 ends_from names o s k t after done same count ends = elim ends [
   | inl w ↦ inl (record { status = w.status; journal = w.journal; files = w.files ∙ ap (λ told. with_outputs told names o.routed o.lines) same; said = w.said })
   | inr v ↦ elim v [
-      | inl w ↦ inr (inl (record { status = w.status; journal = w.journal; fault = elim w.fault [ inl x ↦ inl (put_failed_from names s k t after o.routed o.lines same count x) | inr x ↦ inr (say_failed_from names s k t after o.routed o.lines o.report same x) ] }))
-      | inr w ↦ inr (inr (record {
-          status = w.status;
-          no_blocks = w.no_blocks;
-          files = elim w.files [
-            | inl x ↦ inl (subst (λ told. IsPartlyPut told after.shelf.files names o.routed o.lines) same x)
-            | inr x ↦ inr (x ∙ ap (λ told. with_outputs told names o.routed o.lines) same)
-          ];
-          said = w.said;
-        }))
-    ]
+    | inl w ↦ inr (inl (record { status = w.status; journal = w.journal; fault = elim w.fault [ inl x ↦ inl (put_failed_from names s k t after o.routed o.lines same count x) | inr x ↦ inr (say_failed_from names s k t after o.routed o.lines o.report same x) ] }))
+    | inr w ↦ inr (inr (record {
+      status = w.status;
+      no_blocks = w.no_blocks;
+      files = elim w.files [
+        | inl x ↦ inl (subst (λ told. IsPartlyPut told after.shelf.files names o.routed o.lines) same x)
+        | inr x ↦ inr (x ∙ ap (λ told. with_outputs told names o.routed o.lines) same)
+      ];
+      said = w.said;
+    }))
+  ]
 ]
 
 -- the words are refused

@@ -301,11 +301,26 @@ const REFUSED: [(&[&str], &[u8]); 9] = [
     (&["rout", "a", "b"], b"error 2 shape 1\n"),
     (&["route", "a", "b"], b"error 2 shape 4\n"),
     (&["route", "a", "b", "g", "c", "d"], b"error 2 shape 4\n"),
-    (&["route", "a", "b", "-", "c", "c", "--via"], b"error 2 shape 7\n"),
-    (&["route", "a", "b", "-", "c", "c"], b"error 2 same-name 6\n"),
-    (&["route", "a", "a", "-", "c", "d"], b"error 2 same-name 3\n"),
-    (&["route", "-", "b", "-", "-", "d"], b"error 2 same-name 4\n"),
-    (&["route", "a", "b", "-", "-", "d"], b"error 2 same-name 5\n"),
+    (
+        &["route", "a", "b", "-", "c", "c", "--via"],
+        b"error 2 shape 7\n",
+    ),
+    (
+        &["route", "a", "b", "-", "c", "c"],
+        b"error 2 same-name 6\n",
+    ),
+    (
+        &["route", "a", "a", "-", "c", "d"],
+        b"error 2 same-name 3\n",
+    ),
+    (
+        &["route", "-", "b", "-", "-", "d"],
+        b"error 2 same-name 4\n",
+    ),
+    (
+        &["route", "a", "b", "-", "-", "d"],
+        b"error 2 same-name 5\n",
+    ),
 ];
 
 #[test]

@@ -15,9 +15,9 @@ pub returns : goal.returns
 returns c =
     let state_is = rw c.blocks-2.ensures at c.in_ok-state.ensures.after in
     record {
-  routing = record { finished = c.in_ok-journal.ensures.finished; headline = c.in_ok-journal.ensures.headline };
-  routed = c.from_vec.ensures ∙ c.in_ok-routed.ensures ∙ ap (routed_def c.args.text.now c.args.design.now) state_is;
-  lines = c.from_vec-2.ensures ∙ c.in_ok-lines.ensures;
-  report = c.from_vec-3.ensures ∙ c.in_ok-report.ensures;
-  status = c.routed_status.ensures ∙ ap (routed_status c.args.design.now) state_is;
-}
+      routing = record { finished = c.in_ok-journal.ensures.finished; headline = c.in_ok-journal.ensures.headline };
+      routed = c.from_vec.ensures ∙ c.in_ok-routed.ensures ∙ ap (routed_def c.args.text.now c.args.design.now) state_is;
+      lines = c.from_vec-2.ensures ∙ c.in_ok-lines.ensures;
+      report = c.from_vec-3.ensures ∙ c.in_ok-report.ensures;
+      status = c.routed_status.ensures ∙ ap (routed_status c.args.design.now) state_is;
+    }

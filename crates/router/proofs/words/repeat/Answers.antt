@@ -11,7 +11,7 @@ returns-then-is_among c =
     let within : i < length (word_texts names) = rw (word_count names) c.loop-i-test.true in
     let word : string_bytes c.index-names-i.result ≡ get_or (word_texts names) i [] = ap string_bytes c.index-names-i.is ∙ word_get names i c.index-names-i.result c.loop-i-test.true in
     let found : list_any (bytes_eq (get_or (word_texts names) i [])) (take i (word_texts names)) ≡ true =
-        ap (λ (w : List ℕ). list_any (bytes_eq w) (take i (word_texts names))) (sym word) ∙ sym (earlier_words (string_bytes c.index-names-i.result) names i) ∙ sym c.is_among.ensures ∙ c.if-is_among.true in
+    ap (λ (w : List ℕ). list_any (bytes_eq w) (take i (word_texts names))) (sym word) ∙ sym (earlier_words (string_bytes c.index-names-i.result) names i) ∙ sym c.is_among.ensures ∙ c.if-is_among.true in
     sym (c.loop-i.invariant ∙ repeat_found (i + 2) i (word_texts names) within found)
 
 pub loop-i-preserved : goal.loop-i-preserved
@@ -21,6 +21,6 @@ loop-i-preserved c =
     let within : i < length (word_texts names) = rw (word_count names) c.loop-i-test.true in
     let word : string_bytes c.index-names-i.result ≡ get_or (word_texts names) i [] = ap string_bytes c.index-names-i.is ∙ word_get names i c.index-names-i.result c.loop-i-test.true in
     let missed : list_any (bytes_eq (get_or (word_texts names) i [])) (take i (word_texts names)) ≡ false =
-        ap (λ (w : List ℕ). list_any (bytes_eq w) (take i (word_texts names))) (sym word) ∙ sym (earlier_words (string_bytes c.index-names-i.result) names i) ∙ sym c.is_among.ensures ∙ c.if-is_among.false in
+    ap (λ (w : List ℕ). list_any (bytes_eq w) (take i (word_texts names))) (sym word) ∙ sym (earlier_words (string_bytes c.index-names-i.result) names i) ∙ sym c.is_among.ensures ∙ c.if-is_among.false in
     let number : i + 2 + 1 ≡ i + 1 + 2 = omega arith in
     c.loop-i.invariant ∙ repeat_on (i + 2) i (word_texts names) within missed ∙ ap (λ (n : ℕ). first_repeat n (take (i + 1) (word_texts names)) (drop (i + 1) (word_texts names))) number
