@@ -38,7 +38,7 @@ pub record IsLink (d : Design) (g : Ground) (v : Vertex) (l : Link) : Type 0 whe
 abbrev pub HasLink : Ground → Edge → List Link → Type 0
 HasLink g e row = (l : Link) × Contains row l × (edge_of g.vertices l ≡ e)
 
--- and a link for an edge from v, if it is legal
+-- new is old with a link for an edge from v, if it is legal
 pub record AddsLink (d : Design) (g : Ground) (v : Vertex) (e : Edge) (old new : List Link) : Type 0 where
   pub keeps : (l : Link) → Contains old l → Contains new l
   pub only : (l : Link) → Contains new l → Contains old l ⊎ IsLink d g v l

@@ -17,31 +17,32 @@ along_edge tech v z = record { kind = Along; to = vertex_on tech (record { level
 abbrev pub by_via : Vertex → ℕ → ℕ → Edge
 by_via v k level = record { kind = ByVia k; to = record { level = level; point = v.point } }
 
+-- what was listed still is
 abbrev pub Keeps : List Edge → List Edge → Type 0
 Keeps old new = (e : Edge) → Contains old e → Contains new e
 
--- and the edges to each neighbour among these positions
+-- new has what old has, and the edge to each neighbour among these positions
 pub record HasNeighbours (tech : Tech) (v : Vertex) (positions : List ℤ) (old new : List Edge) : Type 0 where
   pub keeps : Keeps old new
   pub has : (z : ℤ) → Contains positions z → AreNeighbours positions (along tech v.level v.point) z → Contains new (along_edge tech v z)
 
--- and the edge by via k to the level above
+-- new has what old has, and the edge by via k to the level above
 pub record HasAbove (v : Vertex) (k : ℕ) (old new : List Edge) : Type 0 where
   pub keeps : Keeps old new
   pub has : v.level < 255 → Contains new (by_via v k (v.level + 1))
 
--- and the edge by via k to the level below
+-- new has what old has, and the edge by via k to the level below
 pub record HasBelow (v : Vertex) (k : ℕ) (old new : List Edge) : Type 0 where
   pub keeps : Keeps old new
   pub has : (level : ℕ) → v.level ≡ level + 1 → Contains new (by_via v k level)
 
--- and the edges by via k to the levels above and below, if it is usable
+-- new has what old has, and the edges by via k to the levels above and below, if it is usable
 pub record HasVia (v : Vertex) (k : ℕ) (usable : Bool) (old new : List Edge) : Type 0 where
   pub keeps : Keeps old new
   pub above : IsTrue usable → v.level < 255 → Contains new (by_via v k (v.level + 1))
   pub below : (level : ℕ) → IsTrue usable → v.level ≡ level + 1 → Contains new (by_via v k level)
 
--- and the edges by each usable one of the first vias to the levels above and below
+-- new has what old has, and the edges by each usable one of the first vias to the levels above and below
 pub record HasVias (tech : Tech) (v : Vertex) (past : ℕ) (old new : List Edge) : Type 0 where
   pub keeps : Keeps old new
   pub above : (k : ℕ) (via : Via) → k < past → slice_get tech.vias k ≡ Some via → IsTrue via.usable → v.level < 255 → Contains new (by_via v k (v.level + 1))

@@ -35,6 +35,7 @@ is_same true b = b
 is_same false true = false
 is_same false false = true
 
+-- the entries of a pin that is joined as is wanted
 abbrev pub wanted_entries : Bool → Bool → Pin → List Entry
 wanted_entries wanted joined p = if is_same joined wanted then p.entries else []
 
@@ -44,6 +45,7 @@ pin_entries wanted [] pins = []
 pin_entries wanted (b ∷ bs) [] = []
 pin_entries wanted (b ∷ bs) (p ∷ ps) = wanted_entries wanted b p ++ pin_entries wanted bs ps
 
+-- entries of net n
 abbrev pub AreNetEntries : Design → ℕ → List Entry → Type 0
 AreNetEntries d n entries = (e : Entry) → Contains entries e → IsNetEntry d n e
 
@@ -61,20 +63,20 @@ pub record IsStop (d : Design) (g : Ground) (entries : List Entry) (s : Stop) : 
   pub at : slice_get g.vertices s.vertex ≡ Some entry.vertex
   pub cost : s.cost ≡ (entry_part d g.net entry).0
 
--- a stop with this place stands for this entry, which is open
+-- a stop with this place as its tag stands for this entry, which is open
 pub record IsStopOf (d : Design) (g : Ground) (e : Entry) (place : ℕ) (s : Stop) : Type 0 where
   pub tag : s.tag ≡ place
   pub open_entry : IsOpen d g e
   pub at : slice_get g.vertices s.vertex ≡ Some e.vertex
   pub cost : s.cost ≡ (entry_part d g.net e).0
 
--- and a stop with this place for the entry, if it is open
+-- new is old with a stop for the entry, if it is open, and this place as its tag
 pub record AddsStop (d : Design) (g : Ground) (e : Entry) (place : ℕ) (old new : List Stop) : Type 0 where
   pub keeps : (s : Stop) → Contains old s → Contains new s
   pub only : (s : Stop) → Contains new s → Contains old s ⊎ IsStopOf d g e place s
   pub has : IsOpen d g e → (s : Stop) × Contains new s × (s.tag ≡ place)
 
--- exactly the stops of the open ones of the first entries
+-- exactly the stops of the open ones of the first entries, each with its place as the tag
 pub record AreStops (d : Design) (g : Ground) (entries : List Entry) (past : ℕ) (stops : List Stop) : Type 0 where
   pub only : (s : Stop) → Contains stops s → IsStop d g entries s
   pub has : (k : ℕ) (e : Entry) → k < past → slice_get entries k ≡ Some e → IsOpen d g e → (s : Stop) × Contains stops s × (s.tag ≡ k)

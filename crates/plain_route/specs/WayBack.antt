@@ -19,6 +19,7 @@ pub record CanTurnBack (g : Ground) (starts finishes : List Entry) (x : NumberWa
   pub start : x.start.tag < length starts
   pub finish : x.finish.tag < length finishes
 
+-- the walk of a net that a walk over numbers stands for
 pub record IsWalkOf (g : Ground) (starts finishes : List Entry) (x : NumberWalk) (w : Walk) : Type 0 where
   pub start : slice_get starts x.start.tag ≡ Some w.start
   pub edges : w.edges ≡ map (edge_of g.vertices) x.links
