@@ -4,11 +4,12 @@ use Rattle.std.proofs.lemmas.Result.{err_from_is_err_and}
 use Rattle.rt_forms.specs.Clauses.{Looks}
 use Rattle.lef_text.specs.declared.lef.Lef.{Lef}
 use Rattle.lef_text.specs.declared.error.LefError.TheVariants.{Memory}
-use Rattle.std.proofs.Common.{◌≡◌, ◌≢◌, ◌≤◌, length, sym, subst, ◌∙◌, ap, ℕ, Bool, List, ℤ, Result, Ok, Err, Option, Some, None, [], true, false}
-use Rattle.rt_forms.specs.Lexeme.{Place, Lexeme, put}
+use Rattle.std.proofs.Common.{◌≡◌, ◌≢◌, ◌≤◌, length, sym, subst, ◌∙◌, ap, ℕ, Bool, List, ℤ, Result, Ok, Err, Option, Some, None, codes, [], true, false}
+use Rattle.rt_forms.specs.Lexeme.{Place, Lexeme, put, is_end}
 use Rattle.lef_text.specs.Faults.{lef_faults}
-use Rattle.rt_forms.specs.Form.{Read, and_then, loop, text}
-use Rattle.rt_forms.proofs.Laws.{Lawful, lawful, consuming, lawful_bind, lawful_next, lawful_loop, lawful_text}
+use Rattle.rt_forms.specs.Form.{Read, and_then, Form, one, admit, check, done, ◌>>=◌, choose, loop, text, Turn}
+use Rattle.rt_forms.specs.Reading.{a_name, semicolon, rest, the_word}
+use Rattle.rt_forms.proofs.Laws.{Lawful, Consumes, lawful, consuming, lawful_bind, lawful_next, lawful_loop, lawful_text}
 use Rattle.rt_forms.proofs.Whole.{IsWhole, text_is}
 use Rattle.rt_forms.proofs.Skips.{lawful_up_to, lawful_up_to_pair}
 use Rattle.lef_text.specs.declared.error.LefError.{LefError}
@@ -23,10 +24,24 @@ use Rattle.lef_text.specs.declared.via_words.ViaLine.{ViaLine}
 use Rattle.lef_text.specs.declared.via_words.ViaLine.TheVariants as via_lines
 use Rattle.lef_text.specs.declared.statement_words.Statement.{Statement}
 use Rattle.lef_text.specs.declared.statement_words.Statement.TheVariants as statements
+use Rattle.lef_text.specs.Words.{layer_line_of, via_line_of, statement_of}
 use Rattle.lef_text.specs.Numbers.{length_line, rectangle}
+use Rattle.lef_text.specs.Tables as tables
+use Rattle.lef_text.specs.declared.library.Lengths.{Lengths}
+use Rattle.lef_text.specs.declared.library.Rows.{Rows}
 use Rattle.lef_text.specs.Layers as layers
 use Rattle.lef_text.specs.Vias as vias
+use Rattle.lef_text.specs.Shapes as shapes
+use Rattle.lef_text.specs.Shapes.{Shapes, Drawn}
+use Rattle.lef_text.specs.Macros as macros
+use Rattle.lef_text.specs.Macros.{Cell}
 use Rattle.lef_text.specs.Lef as lefs
+use Rattle.lef_text.specs.declared.shape_words.ShapeLine.{ShapeLine}
+use Rattle.lef_text.specs.declared.shape_words.ShapeLine.TheVariants as shape_lines
+use Rattle.lef_text.specs.declared.macro_words.MacroLine.{MacroLine}
+use Rattle.lef_text.specs.declared.macro_words.MacroLine.TheVariants as macro_lines
+use Rattle.rt_base.specs.Sides.{Sides}
+use Rattle.rt_base.specs.declared.tech.LayerNo.{LayerNo}
 
 -- ---- numbers
 
@@ -37,6 +52,44 @@ lawful_length units least = search lawful
 lawful_rectangle : (in_macro : Bool) (units : ℕ) → Lawful (rectangle in_macro units)
 unfolding rectangle
 lawful_rectangle in_macro units = search lawful depth 16
+
+-- ---- tables and current densities
+
+lawful_length_turn : (units : ℕ) (s : Lengths) → Lawful (tables.length_turn units s)
+unfolding tables.length_turn
+lawful_length_turn units s = search lawful depth 16
+
+lawful_length_turns : (units : ℕ) (s : Lengths) → Lawful (loop (tables.length_turn units) s)
+unfolding tables.length_turn
+lawful_length_turns units s = lawful_loop (tables.length_turn units) s (lawful_length_turn units) (λ u. search consuming)
+
+lawful_spacing_turn : (units k : ℕ) (xs : List ℤ) → Lawful (tables.spacing_turn units k xs)
+unfolding tables.spacing_turn
+lawful_spacing_turn units k xs = search lawful
+
+lawful_spacing_turns : (units k : ℕ) (xs : List ℤ) → Lawful (loop (tables.spacing_turn units k) xs)
+unfolding tables.spacing_turn
+lawful_spacing_turns units k xs = lawful_loop (tables.spacing_turn units k) xs (lawful_spacing_turn units k) (λ u. search consuming)
+
+lawful_row_turn : (units k : ℕ) (s : Rows) → Lawful (tables.row_turn units k s)
+unfolding tables.row_turn
+lawful_row_turn units k s = search (lawful, lawful_spacing_turns) depth 16
+
+lawful_row_turns : (units k : ℕ) (s : Rows) → Lawful (loop (tables.row_turn units k) s)
+unfolding tables.row_turn
+lawful_row_turns units k s = lawful_loop (tables.row_turn units k) s (lawful_row_turn units k) (λ u. search consuming)
+
+lawful_run_table : (units : ℕ) (s : LayerLines) (w : Place) → Lawful (tables.run_table units s w)
+unfolding tables.run_table
+lawful_run_table units s w = search (lawful, lawful_length_turns, lawful_row_turns) depth 16
+
+lawful_table : (units : ℕ) (s : LayerLines) → Lawful (tables.table_line units s)
+unfolding tables.table_line
+lawful_table units s = search (lawful, lawful_up_to, lawful_run_table) depth 16
+
+lawful_density : (s : LayerLines) → Lawful (tables.density_line s)
+unfolding tables.density_line
+lawful_density s = search (lawful, lawful_up_to) depth 16
 
 -- ---- layers
 
@@ -57,8 +110,8 @@ lawful_line_by units top s w layer_lines.Direction = search lawful
 lawful_line_by units top s w layer_lines.Unused = search (lawful, lawful_up_to)
 lawful_line_by units top s w layer_lines.Width = search (lawful, lawful_length)
 lawful_line_by units top s w layer_lines.Spacing = lawful_spacing units s
-lawful_line_by units top s w layer_lines.SpacingTable = search lawful
-lawful_line_by units top s w layer_lines.CurrentDensity = search lawful
+lawful_line_by units top s w layer_lines.SpacingTable = lawful_table units s
+lawful_line_by units top s w layer_lines.CurrentDensity = lawful_density s
 lawful_line_by units top s w layer_lines.End = lawful_end top s
 lawful_line_by units top s w layer_lines.Other = search (lawful, lawful_up_to)
 
@@ -101,17 +154,25 @@ lawful_rect_line : (units : ℕ) (s : ViaLines) (w : Place) (layer : _) → Lawf
 lawful_rect_line units s w None = search lawful
 lawful_rect_line units s w (Some layer) = search (lawful, lawful_rectangle)
 
+lawful_polygon_of : {A : Type 0} (w : Place) (layer : Option (Option LayerNo)) → Lawful (vias.polygon_line {A = A} w layer)
+lawful_polygon_of w None = search lawful
+lawful_polygon_of w (Some layer) = search lawful
+
+lawful_generated_of : {A : Type 0} (w : Place) (layer : Option (Option LayerNo)) → Lawful (vias.generated_line {A = A} w layer)
+lawful_generated_of w None = search lawful
+lawful_generated_of w (Some layer) = search lawful
+
 lawful_via_by : (units : ℕ) (lib : Library) (name : List ℕ) (s : ViaLines) (w : Place) (k : ViaLine) → Lawful (vias.line_by units lib name s w k)
 lawful_via_by units lib name s w via_lines.Layer = search lawful
 lawful_via_by units lib name s w via_lines.Rect = lawful_rect_line units s w s.layer
-lawful_via_by units lib name s w via_lines.Polygon = search lawful
+lawful_via_by units lib name s w via_lines.Polygon = lawful_polygon_of w s.layer
 lawful_via_by units lib name s w via_lines.Unused = search (lawful, lawful_up_to)
-lawful_via_by units lib name s w via_lines.Rule = search lawful
-lawful_via_by units lib name s w via_lines.CutSize = search lawful
-lawful_via_by units lib name s w via_lines.Layers = search lawful
-lawful_via_by units lib name s w via_lines.CutSpacing = search lawful
-lawful_via_by units lib name s w via_lines.Enclosure = search lawful
-lawful_via_by units lib name s w via_lines.RowCol = search lawful
+lawful_via_by units lib name s w via_lines.Rule = lawful_generated_of w s.layer
+lawful_via_by units lib name s w via_lines.CutSize = lawful_generated_of w s.layer
+lawful_via_by units lib name s w via_lines.Layers = lawful_generated_of w s.layer
+lawful_via_by units lib name s w via_lines.CutSpacing = lawful_generated_of w s.layer
+lawful_via_by units lib name s w via_lines.Enclosure = lawful_generated_of w s.layer
+lawful_via_by units lib name s w via_lines.RowCol = lawful_generated_of w s.layer
 lawful_via_by units lib name s w via_lines.Refused = search lawful
 lawful_via_by units lib name s w via_lines.End = search lawful
 lawful_via_by units lib name s w via_lines.Unknown = search lawful
@@ -131,6 +192,91 @@ lawful_optional word = search lawful depth 16
 lawful_via : (units : ℕ) (lib : Library) → Lawful (vias.via_statement units lib)
 unfolding vias.via_statement
 lawful_via units lib = search (lawful, lawful_optional, lawful_via_lines) depth 16
+
+-- ---- shapes
+
+lawful_layer_rest : (units : ℕ) (lib : Library) (k : ℕ) → Lawful (shapes.layer_rest units lib k)
+unfolding shapes.layer_rest
+lawful_layer_rest units lib k = search lawful depth 16
+
+lawful_layer_words : (lib : Library) → Lawful (shapes.layer_words lib)
+unfolding shapes.layer_words
+lawful_layer_words lib = search (lawful, lawful_optional)
+
+lawful_rect_of : (units : ℕ) (s : Shapes) (w : Place) (layer : Option (Option LayerNo)) → Lawful (shapes.rect_line units s w layer)
+lawful_rect_of units s w None = search lawful
+lawful_rect_of units s w (Some layer) = search (lawful, lawful_rectangle)
+
+lawful_shape_by : (units : ℕ) (s : Shapes) (w : Place) (k : ShapeLine) → Lawful (shapes.line_by units s w k)
+lawful_shape_by units s w shape_lines.Unused = search (lawful, lawful_up_to)
+lawful_shape_by units s w shape_lines.Layer = search (lawful, lawful_layer_words, lawful_layer_rest)
+lawful_shape_by units s w shape_lines.Width = search lawful
+lawful_shape_by units s w shape_lines.Rect = lawful_rect_of units s w s.layer
+lawful_shape_by units s w shape_lines.Polygon = lawful_polygon_of w s.layer
+lawful_shape_by units s w shape_lines.Refused = search lawful
+lawful_shape_by units s w shape_lines.End = search lawful
+lawful_shape_by units s w shape_lines.Unknown = search lawful
+
+lawful_shape_line : (units : ℕ) (s : Shapes) → Lawful (shapes.shape_line units s)
+unfolding shapes.shape_line
+lawful_shape_line units s = search (lawful_bind, lawful_next, lawful_shape_by)
+
+lawful_shape_lines : (units : ℕ) (s : Shapes) → Lawful (loop (shapes.shape_line units) s)
+unfolding shapes.shape_line
+lawful_shape_lines units s = lawful_loop (shapes.shape_line units) s (lawful_shape_line units) (λ u. search consuming)
+
+lawful_more_shapes : (units : ℕ) (lib : Library) (s : List (LayerNo × Sides)) → Lawful (shapes.more_shapes units lib s)
+unfolding shapes.more_shapes
+lawful_more_shapes units lib s = search (lawful, lawful_shape_lines)
+
+-- ---- macros
+
+lawful_pin_line : (units : ℕ) (name : List ℕ) (s : Drawn) → Lawful (macros.pin_line units name s)
+unfolding macros.pin_line
+lawful_pin_line units name s = search (lawful, lawful_up_to, lawful_more_shapes) depth 16
+
+lawful_pin_lines : (units : ℕ) (name : List ℕ) (s : Drawn) → Lawful (loop (macros.pin_line units name) s)
+unfolding macros.pin_line
+lawful_pin_lines units name s = lawful_loop (macros.pin_line units name) s (lawful_pin_line units name) (λ u. search consuming)
+
+lawful_pin : (units : ℕ) (s : Cell) → Lawful (macros.pin units s)
+unfolding macros.pin
+lawful_pin units s = search (lawful, lawful_pin_lines)
+
+lawful_size : (units : ℕ) → Lawful (macros.size units)
+unfolding macros.size
+lawful_size units = search lawful depth 16
+
+lawful_origin : (units : ℕ) → Lawful (macros.origin units)
+unfolding macros.origin
+lawful_origin units = search lawful depth 16
+
+lawful_macro_by : (units : ℕ) (name : List ℕ) (s : Cell) (w : Place) (k : MacroLine) → Lawful (macros.line_by units name s w k)
+lawful_macro_by units name s w macro_lines.Size = search (lawful, lawful_size)
+lawful_macro_by units name s w macro_lines.Origin = search (lawful, lawful_origin)
+lawful_macro_by units name s w macro_lines.Pin = lawful_pin units s
+lawful_macro_by units name s w macro_lines.Obs = search (lawful, lawful_more_shapes)
+lawful_macro_by units name s w macro_lines.Density = search (lawful, lawful_up_to)
+lawful_macro_by units name s w macro_lines.Timing = search (lawful, lawful_up_to_pair)
+lawful_macro_by units name s w macro_lines.Unused = search (lawful, lawful_up_to)
+lawful_macro_by units name s w macro_lines.End = search lawful
+lawful_macro_by units name s w macro_lines.Unknown = search lawful
+
+lawful_macro_line : (units : ℕ) (name : List ℕ) (s : Cell) → Lawful (macros.macro_line units name s)
+unfolding macros.macro_line
+lawful_macro_line units name s = search (lawful_bind, lawful_next, lawful_macro_by)
+
+lawful_macro_lines : (units : ℕ) (name : List ℕ) (s : Cell) → Lawful (loop (macros.macro_line units name) s)
+unfolding macros.macro_line
+lawful_macro_lines units name s = lawful_loop (macros.macro_line units name) s (lawful_macro_line units name) (λ u. search consuming)
+
+lawful_macro_body : (units : ℕ) (lib : Library) (name : List ℕ) → Lawful (macros.macro_body units lib name)
+unfolding macros.macro_body
+lawful_macro_body units lib name = search (lawful, lawful_macro_lines)
+
+lawful_macro : (units : ℕ) (lib : Library) → Lawful (macros.macro_statement units lib)
+unfolding macros.macro_statement
+lawful_macro units lib = search (lawful, lawful_macro_body)
 
 -- ---- the text
 
@@ -156,7 +302,7 @@ lawful_statement_by units lib w statements.Site = search (lawful, lawful_section
 lawful_statement_by units lib w statements.Rule = search (lawful, lawful_section)
 lawful_statement_by units lib w statements.Layer = lawful_layer units lib
 lawful_statement_by units lib w statements.Via = lawful_via units lib
-lawful_statement_by units lib w statements.Macro = search lawful
+lawful_statement_by units lib w statements.Macro = lawful_macro units lib
 lawful_statement_by units lib w statements.End = search lawful
 lawful_statement_by units lib w statements.Unknown = search lawful
 

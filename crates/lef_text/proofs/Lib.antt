@@ -2,5 +2,8 @@ pub mod Grammar
 pub mod Yields
 pub mod Small
 pub mod Sound
+pub mod Rectangles
+pub mod SoundMacros
 pub mod SoundVias
 pub mod Bytes
+pub mod Counts

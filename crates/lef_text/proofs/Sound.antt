@@ -1,6 +1,6 @@
 -- What holds of what is read so far.
-use Rattle.std.proofs.Common.{eqb-true, ◌≡◌, ◌≢◌, ◌||◌, zero, suc, ℕ, ◌+◌, ◌≤◌, ◌<◌, ◌^◌, Bool, true, false, not, List, [], ◌∷◌, ◌++◌, length, map, Result, Ok, Err, Option, Some, None, ℤ, pos, negsuc, ◌≤ℤ◌, int_lt, refl, sym, ◌∙◌, ap, subst, arith, bytes_eq, codes}
-use Rattle.std.specs.Prelude.{All, Contains, IfSome, unwrap_or}
+use Rattle.std.proofs.Common.{eqb-true, ◌≡◌, ◌≢◌, ◌||◌, zero, suc, ℕ, ◌+◌, ◌≤◌, ◌<◌, ◌^◌, ◌%◌, ◌==◌, Bool, true, false, not, List, [], ◌∷◌, ◌++◌, length, map, filter, Result, Ok, Err, Option, Some, None, ℤ, pos, negsuc, ◌≤ℤ◌, int_lt, refl, sym, ◌∙◌, ap, subst, arith, nat_lt, bytes_eq, codes, if◌then◌else◌, cond}
+use Rattle.std.specs.Prelude.{All, AllPairs, Contains, IfSome, unsigned_abs, unwrap_or}
 use Rattle.std.specs.Int.{int_max}
 use Rattle.std.specs.List.{list_any}
 use Rattle.std.proofs.lemmas.Int.{ints, int_max_is}
@@ -13,18 +13,25 @@ use Rattle.rt_base.specs.declared.tech.Layer.{Layer}
 use Rattle.rt_base.specs.declared.tech.Via.{Via}
 use Rattle.rt_base.specs.declared.tech.LayerNo.{LayerNo}
 use Rattle.rt_base.specs.Sides.{Sides}
-use Rattle.rt_base.specs.Ranges.{IsWithin, IsWidth}
+use Rattle.rt_base.specs.Ranges.{IsWithin, IsWidth, AreSidesWithin}
 use Rattle.rt_forms.specs.Lexeme.{Place}
-use Rattle.rt_forms.specs.Form.{next, one, check, done, loop, Turn, More, Done}
+use Rattle.rt_forms.specs.Form.{Form, next, one, check, done, ◌>>=◌, choose, loop, Turn, More, Done}
 use Rattle.rt_forms.specs.Reading.{is_name_word, at_line, semicolon, rest, the_word}
 use Rattle.rt_words.specs.Reading.{decimal_of}
 use Rattle.rt_words.specs.declared.number.NumberFault.{NumberFault}
 use Rattle.lef_text.specs.declared.error.LefError.{LefError}
 use Rattle.lef_text.specs.declared.error.LefError.TheVariants.{Number}
+use Rattle.lef_text.specs.declared.error.What.{What}
 use Rattle.lef_text.specs.declared.library.Library.{Library}
 use Rattle.lef_text.specs.declared.library.LayerLines.{LayerLines}
 use Rattle.lef_text.specs.IsLef.{IsLayer, IsVia, IsMacro, IsOn, IsSpacing, IsPin, IfRouting, Alternate, directions, AreDistinct}
 use Rattle.lef_text.specs.Layers as layers
+use Rattle.lef_text.specs.Tables as tables
+use Rattle.lef_text.specs.declared.library.Rows.{Rows}
+use Rattle.lef_text.specs.Numbers.{number}
+use Rattle.rt_forms.specs.Form.{turn}
+use Rattle.rt_forms.specs.Reading.{a_name, up_to_word}
+use Rattle.std.proofs.lemmas.List.Elements.{All-head}
 use Rattle.lef_text.specs.declared.lef.Macro.{Macro}
 use Rattle.lef_text.specs.declared.library.LayerType.{LayerType}
 use Rattle.lef_text.specs.declared.library.LayerType.TheVariants as types
@@ -32,7 +39,7 @@ use Rattle.lef_text.specs.declared.layer_words.LayerLine.{LayerLine}
 use Rattle.lef_text.specs.declared.layer_words.LayerLine.TheVariants as lines
 use Rattle.lef_text.specs.Words.{layer_line_of}
 use Rattle.lef_text.specs.Numbers.{length_at_least, from_least, length_line}
-use Rattle.lef_text.proofs.Yields.{Yields, yields_bind, yields_then, yields_check, yields_done, yields_refused, yields_one, yields_choose, OfTurn, yields_loop}
+use Rattle.lef_text.proofs.Yields.{Yields, yields_bind, yields_then, yields_check, yields_done, yields_refused, yields_one, yields_choose, OfTurn, yields_loop, yields_text}
 use Rattle.lef_text.proofs.Small.{decimal_small, passed, passed_so, ok_is}
 
 -- ---- names
@@ -56,7 +63,7 @@ not_false true h = refl
 not_false false h = absurd cc
 
 -- a name that was new
-new_name_is : (names : List (List ℕ)) (p q : Place) → layers.new_name names p ≡ Ok q → (is_name_word q.word ≡ true) × All (λ n. n ≢ q.word) names
+pub new_name_is : (names : List (List ℕ)) (p q : Place) → layers.new_name names p ≡ Ok q → (is_name_word q.word ≡ true) × All (λ n. n ≢ q.word) names
 new_name_is names p q h =
     let a = passed (not (is_name_word p.word)) _ _ q h in
     let b = passed (list_any (bytes_eq p.word) names) _ _ q a.1 in
@@ -143,7 +150,7 @@ yields_length : (units : ℕ) (least : ℤ) → Yields (length_line units least)
 unfolding length_line
 yields_length units least = yields_bind (one (length_at_least units least)) _ (IsLength least) (IsLength least) (yields_one _ _ (λ p a h. length_is units least p a h)) (λ n h. yields_then semicolon _ (IsLength least) (λ u. yields_done n (IsLength least) h))
 
-greatest_small : (o : Option ℤ) (n : ℤ) → IfSome o (IsWithin (2 ^ 30)) → IsWithin (2 ^ 30) n → IsWithin (2 ^ 30) (layers.greatest o n)
+greatest_small : (o : Option ℤ) (n : ℤ) → IfSome o (IsWithin (2 ^ 30)) → IsWithin (2 ^ 30) n → IsWithin (2 ^ 30) (tables.greatest o n)
 greatest_small None n h g = g
 greatest_small (Some m) n h g = max_small m n h g
   where
@@ -153,15 +160,15 @@ greatest_small (Some m) n h g = max_small m n h g
 abbrev TurnOk : List ℕ → Bool → Option (List ℕ × Bool) → Turn LayerLines → Type 0
 TurnOk name routing top t = OfTurn (IsLines name routing) (IsWhole name routing top) t
 
-yields_counted : (name : List ℕ) (routing : Bool) (top : Option (List ℕ × Bool)) (s : LayerLines) → IsLines name routing s → Yields (done {E = LefError} (layers.counted s)) (TurnOk name routing top)
-yields_counted name routing top s h = yields_done (layers.counted s) (TurnOk name routing top) (record { name = h.name; routing = h.routing; width = h.width; spacing = h.spacing })
+yields_counted : (name : List ℕ) (routing : Bool) (top : Option (List ℕ × Bool)) (s : LayerLines) → IsLines name routing s → Yields (done {E = LefError} (tables.counted s)) (TurnOk name routing top)
+yields_counted name routing top s h = yields_done (tables.counted s) (TurnOk name routing top) (record { name = h.name; routing = h.routing; width = h.width; spacing = h.spacing })
 
-yields_skipped : (name : List ℕ) (routing : Bool) (top : Option (List ℕ × Bool)) (s : LayerLines) → IsLines name routing s → Yields (layers.counted_line s) (TurnOk name routing top)
+yields_skipped : (name : List ℕ) (routing : Bool) (top : Option (List ℕ × Bool)) (s : LayerLines) → IsLines name routing s → Yields (tables.counted_line s) (TurnOk name routing top)
 yields_skipped name routing top s h = yields_then rest _ (TurnOk name routing top) (λ u. yields_counted name routing top s h)
 
 with_spacing_ok : (name : List ℕ) (routing : Bool) (top : Option (List ℕ × Bool)) (s : LayerLines) (r : Result ℤ LefError) → IsLines name routing s → ((n : ℤ) → r ≡ Ok n → IsWithin (2 ^ 30) n) → (t : Turn LayerLines) → layers.with_spacing s r ≡ Ok t → TurnOk name routing top t
 with_spacing_ok name routing top s (Ok n) h small t e =
-    subst (TurnOk name routing top) (ok_is {N = LefError} (More (record s { spacing = Some (layers.greatest s.spacing n) })) t e) (record { name = h.name; routing = h.routing; width = h.width; spacing = greatest_small s.spacing n h.spacing (small n refl) })
+    subst (TurnOk name routing top) (ok_is {N = LefError} (More (record s { spacing = Some (tables.greatest s.spacing n) })) t e) (record { name = h.name; routing = h.routing; width = h.width; spacing = greatest_small s.spacing n h.spacing (small n refl) })
 with_spacing_ok name routing top s (Err f) h small t e = absurd cc
 
 yields_spacing : (units : ℕ) (name : List ℕ) (routing : Bool) (top : Option (List ℕ × Bool)) (s : LayerLines) → IsLines name routing s → Yields (layers.spacing_line units s) (TurnOk name routing top)
@@ -172,6 +179,78 @@ yields_spacing units name routing top s h =
     (yields_then next _ P (λ e. yields_choose (bytes_eq e.word (codes ";")) _ _ P
     (yields_check _ P (λ t q. with_spacing_ok name routing top s (length_at_least units (pos 0) v) h (λ n r. (length_is units (pos 0) v n r).1) t q))
     (yields_skipped name routing top s h))))
+
+-- ---- tables
+
+number_small : (units : ℕ) → Yields (number units) (IsWithin (2 ^ 30))
+number_small units = yields_one _ _ (λ p n h. decimal_small p.word units n (on_line Number p.line _ n h))
+
+pushed_small : (xs : List ℤ) (n : ℤ) → All (IsWithin (2 ^ 30)) xs → IsWithin (2 ^ 30) n → All (IsWithin (2 ^ 30)) (xs ++ n ∷ [])
+pushed_small xs n h g = All-push (IsWithin (2 ^ 30)) xs n h g
+
+turn_small : (b : Bool) (xs : List ℤ) → All (IsWithin (2 ^ 30)) xs → OfTurn (All (IsWithin (2 ^ 30))) (All (IsWithin (2 ^ 30))) (turn b xs)
+turn_small true xs h = h
+turn_small false xs h = h
+
+yields_spacings : (units k : ℕ) → Yields (loop (tables.spacing_turn units k) []) (All (IsWithin (2 ^ 30)))
+unfolding tables.spacing_turn
+yields_spacings units k =
+    let A = All (IsWithin (2 ^ 30)) in
+    yields_loop (tables.spacing_turn units k) [] A A
+    (λ xs h. yields_bind (number units) _ (IsWithin (2 ^ 30)) (OfTurn A A) (number_small units) (λ n q. yields_done _ (OfTurn A A) (turn_small (length (xs ++ n ∷ []) == k) (xs ++ n ∷ []) (pushed_small xs n h q))))
+    (All-nil _)
+
+AreRows : Rows → Type 0
+AreRows s = All (λ (r : ℤ × List ℤ). All (IsWithin (2 ^ 30)) r.1) s.rows
+
+turn_rows : (b : Bool) (s : Rows) → AreRows s → OfTurn AreRows AreRows (turn b s)
+turn_rows true s h = h
+turn_rows false s h = h
+
+yields_rows : (units k : ℕ) → Yields (loop (tables.row_turn units k) tables.no_rows) AreRows
+unfolding tables.row_turn AreRows
+yields_rows units k =
+    let P = OfTurn AreRows AreRows in
+    yields_loop (tables.row_turn units k) tables.no_rows AreRows AreRows
+    (λ s h. yields_then (one (tables.next_above units s.last)) _ P (λ w.
+    yields_bind (loop (tables.spacing_turn units k) []) _ (All (IsWithin (2 ^ 30))) P (yields_spacings units k) (λ xs q.
+    yields_then (one tables.row_end) _ P (λ last.
+    yields_done _ P (turn_rows last (record { rows = s.rows ++ (w, xs) ∷ []; last = Some w }) (All-push (λ (r : ℤ × List ℤ). All (IsWithin (2 ^ 30)) r.1) s.rows (w, xs) h q))))))
+    (All-nil _)
+
+first_small : (xs : List ℤ) → All (IsWithin (2 ^ 30)) xs → IsWithin (2 ^ 30) (tables.first_number xs)
+first_small [] h = omega arith
+first_small (x ∷ xs) h = All-head (IsWithin (2 ^ 30)) x xs h
+
+entry_small : (rows : List (ℤ × List ℤ)) → All (λ (r : ℤ × List ℤ). All (IsWithin (2 ^ 30)) r.1) rows → IsWithin (2 ^ 30) (tables.first_entry rows)
+entry_small [] h = omega arith
+entry_small (r ∷ rs) h = first_small r.1 (All-head (λ (r : ℤ × List ℤ). All (IsWithin (2 ^ 30)) r.1) r rs h)
+
+yields_run : (units : ℕ) (name : List ℕ) (routing : Bool) (top : Option (List ℕ × Bool)) (s : LayerLines) (w : Place) → IsLines name routing s → Yields (tables.run_table units s w) (TurnOk name routing top)
+unfolding tables.run_table AreRows
+yields_run units name routing top s w h =
+    let P = TurnOk name routing top in
+    yields_then (check (tables.only_table w s s.table.lengths)) _ P (λ u.
+    yields_then (number units) _ P (λ l.
+    yields_then (loop (tables.length_turn units) (tables.one_length l)) _ P (λ lengths.
+    yields_bind (loop (tables.row_turn units (length lengths.numbers)) tables.no_rows) _ AreRows P (yields_rows units (length lengths.numbers)) (λ rows q.
+    yields_done _ P (record { name = h.name; routing = h.routing; width = h.width; spacing = greatest_small s.spacing (tables.first_entry rows.rows) h.spacing (entry_small rows.rows q) })))))
+
+yields_table : (units : ℕ) (name : List ℕ) (routing : Bool) (top : Option (List ℕ × Bool)) (s : LayerLines) → IsLines name routing s → Yields (tables.table_line units s) (TurnOk name routing top)
+unfolding tables.table_line
+yields_table units name routing top s h =
+    let P = TurnOk name routing top in
+    yields_then next _ P (λ w. yields_choose (bytes_eq w.word (codes "PARALLELRUNLENGTH")) _ _ P (yields_run units name routing top s w h)
+    (yields_choose (bytes_eq w.word (codes ";")) _ _ P (yields_counted name routing top s h) (yields_skipped name routing top s h)))
+
+yields_density : (name : List ℕ) (routing : Bool) (top : Option (List ℕ × Bool)) (s : LayerLines) → IsLines name routing s → Yields (tables.density_line s) (TurnOk name routing top)
+unfolding tables.density_line
+yields_density name routing top s h =
+    let P = TurnOk name routing top in
+    yields_then a_name _ P (λ n. yields_then next _ P (λ w. yields_choose (tables.is_numeral w.word) _ _ P
+    (yields_then semicolon _ P (λ u. yields_counted name routing top s h))
+    (yields_choose (bytes_eq w.word (codes "TABLEENTRIES")) _ _ P (yields_skipped name routing top s h)
+    (yields_then (up_to_word (codes "TABLEENTRIES")) _ P (λ u. yields_skipped name routing top s h)))))
 
 yields_line : (units : ℕ) (top : Option (List ℕ × Bool)) (name : List ℕ) (routing : Bool) (s : LayerLines) (w : Place) (k : LayerLine) → IsLines name routing s → Yields (layers.line_by units top s w k) (TurnOk name routing top)
 unfolding layers.end_of_layer
@@ -185,8 +264,8 @@ yields_line units top name routing s w lines.Width h =
     let P = TurnOk name routing top in
     yields_bind (length_line units (pos 1)) _ (IsLength (pos 1)) P (yields_length units (pos 1)) (λ n q. yields_done _ P (record { name = h.name; routing = h.routing; width = q; spacing = h.spacing }))
 yields_line units top name routing s w lines.Spacing h = yields_spacing units name routing top s h
-yields_line units top name routing s w lines.SpacingTable h = yields_refused _ (TurnOk name routing top)
-yields_line units top name routing s w lines.CurrentDensity h = yields_refused _ (TurnOk name routing top)
+yields_line units top name routing s w lines.SpacingTable h = yields_table units name routing top s h
+yields_line units top name routing s w lines.CurrentDensity h = yields_density name routing top s h
 yields_line units top name routing s w lines.End h =
     let P = TurnOk name routing top in
     yields_bind (check (layers.whole_layer top s)) _ (λ u. layers.whole_layer top s ≡ Ok tt) P (yields_check _ _ (λ u q. q)) (λ u q. yields_then (the_word s.name) _ P (λ v. yields_done (Done s) P (record { lines = h; passed = q })))
@@ -253,13 +332,21 @@ end_is name top false s h = record { width = rw h.lines.routing tt; crossed = rw
 abbrev pub IsNumber : ℕ → Option LayerNo → Type 0
 IsNumber layers o = IfSome o (λ n. n.0 < layers)
 
+-- a macro, but for how many pins it has
+pub record IsMacroRead (layers : ℕ) (m : Macro) : Type 0 where
+  pub name : is_name_word m.name ≡ true
+  pub w : IsWithin (2 ^ 30) m.w
+  pub h : IsWithin (2 ^ 30) m.h
+  pub pins : All (IsPin layers) m.pins
+  pub obs : All (IsOn layers (2 ^ 31)) m.obs
+
 pub record IsSound (lib : Library) : Type 0 where
   pub layers : All IsLayer lib.layers
   pub alternate : Alternate (directions lib.layers)
   pub top : last_of (directions lib.layers) ≡ direction_of lib.top
   pub numbers : All (IsNumber (length lib.layers)) lib.numbers
   pub vias : All (IsVia (length lib.layers)) lib.vias
-  pub macros : All (IsMacro (length lib.layers)) lib.macros
+  pub macros : All (IsMacroRead (length lib.layers)) lib.macros
   pub layer_names : AreDistinct lib.layer_names
   pub among : All (λ (l : Layer). Contains lib.layer_names l.name) lib.layers
   pub layers_apart : AreDistinct (map (λ (l : Layer). l.name) lib.layers)
@@ -281,13 +368,12 @@ via_more n m v le h = record { name = h.name; no_path_word = h.no_path_word; rec
 pin_more : (n m : ℕ) (p : List ℕ × List (LayerNo × Sides)) → n ≤ m → IsPin n p → IsPin m p
 pin_more n m p le h = (h.0, all_on_more n m (2 ^ 31) p.1 le h.1)
 
-macro_more : (n m : ℕ) (c : Macro) → n ≤ m → IsMacro n c → IsMacro m c
+macro_more : (n m : ℕ) (c : Macro) → n ≤ m → IsMacroRead n c → IsMacroRead m c
 macro_more n m c le h = record {
   name = h.name;
   w = h.w;
   h = h.h;
   pins = All-weaker (IsPin n) (IsPin m) (λ p q. pin_more n m p le q) c.pins h.pins;
-  few_pins = h.few_pins;
   obs = all_on_more n m (2 ^ 31) c.obs le h.obs;
 }
 
@@ -353,7 +439,7 @@ with_layer_sound lib name routing s o w =
       top = ap last_of dirs ∙ top_more (directions lib.layers) lib.top s s.routing refl h.top;
       numbers = All-push (IsNumber m) lib.numbers (Some (record { 0 = n })) (All-weaker (IsNumber n) (IsNumber m) (λ k q. number_more n m k le q) lib.numbers h.numbers) (omega arith);
       vias = All-weaker (IsVia n) (IsVia m) (λ v q. via_more n m v le q) lib.vias h.vias;
-      macros = All-weaker (IsMacro n) (IsMacro m) (λ c q. macro_more n m c le q) lib.macros h.macros;
+      macros = All-weaker (IsMacroRead n) (IsMacroRead m) (λ c q. macro_more n m c le q) lib.macros h.macros;
       layer_names = h.layer_names;
       among = All-push (λ (k : Layer). Contains lib.layer_names k.name) lib.layers l h.among (rw here o.named);
       layers_apart = subst AreDistinct (sym (map-append name_of lib.layers (l ∷ []))) (distinct_push (map name_of lib.layers) s.name h.layers_apart (All-map (λ (k : List ℕ). k ≢ s.name) name_of lib.layers (rw here o.apart)));

@@ -1,85 +1,49 @@
 -- What holds of vias, and of the whole text.
-use Rattle.std.proofs.Common.{◌≡◌, ◌≢◌, ℕ, ◌+◌, ◌<◌, ◌^◌, Bool, true, false, not, List, [], ◌∷◌, ◌++◌, length, Ok, Option, Some, None, ℤ, refl, sym, ◌∙◌, ap, subst, arith, bytes_eq, codes, slice_get, position, slice_index_or, inl, inr}
-use Rattle.std.specs.Prelude.{All, IfSome}
+use Rattle.std.proofs.Common.{◌≡◌, ◌≢◌, ℕ, ◌+◌, ◌≤◌, ◌<◌, ◌^◌, ◌||◌, ◌&&◌, nat_lt, Bool, true, false, not, List, [], ◌∷◌, ◌++◌, length, map, Result, Ok, Err, Option, Some, None, ℤ, pos, ◌≤ℤ◌, refl, sym, ◌∙◌, ap, subst, arith, bytes_eq, codes, if◌then◌else◌, slice_get, position, slice_index_or, ◌⊎◌, inl, inr}
+use Rattle.std.specs.Prelude.{All, AllPairs, IfSome}
 use Rattle.std.specs.Int.{int_max, int_min}
-use Rattle.std.specs.List.{list_any}
+use Rattle.std.specs.List.{list_any, list_all}
+use Rattle.std.proofs.lemmas.Bool.Decides.{nat_tests}
 use Rattle.std.proofs.lemmas.Int.{ints, int_max_is, int_min_is}
 use Rattle.std.proofs.lemmas.Option.{slice_get_cases}
 use Rattle.std.proofs.lemmas.List.{map-append}
 use Rattle.std.proofs.lemmas.List.Elements.{All-push, All-nil, All-get_or}
+use Rattle.rt_base.specs.declared.tech.Layer.{Layer}
 use Rattle.rt_base.specs.declared.tech.Via.{Via}
 use Rattle.rt_base.specs.declared.tech.LayerNo.{LayerNo}
+use Rattle.rt_base.specs.declared.geometry.Point.{Point}
 use Rattle.rt_base.specs.Sides.{Sides}
 use Rattle.rt_base.specs.Geometry.{hull_of}
 use Rattle.rt_base.specs.Ranges.{IsWithin, AreSidesWithin}
 use Rattle.rt_forms.specs.Lexeme.{Place}
-use Rattle.rt_forms.specs.Form.{next, one, loop, text, Turn, More, Done}
-use Rattle.rt_forms.specs.Reading.{is_name_word, semicolon, rest, the_word, up_to_word, up_to_pair}
+use Rattle.rt_forms.specs.Form.{Form, next, one, check, done, ◌>>=◌, choose, loop, text, Turn, More, Done}
+use Rattle.rt_forms.specs.Reading.{is_name_word, at_line, semicolon, rest, the_word, up_to_word, up_to_pair}
+use Rattle.rt_words.specs.Reading.{decimal_of}
+use Rattle.rt_words.specs.declared.number.NumberFault.{NumberFault}
 use Rattle.lef_text.specs.declared.error.LefError.{LefError}
 use Rattle.lef_text.specs.declared.error.LefError.TheVariants.{Number}
 use Rattle.lef_text.specs.declared.lef.Lef.{Lef}
+use Rattle.lef_text.specs.declared.lef.Macro.{Macro}
 use Rattle.lef_text.specs.declared.library.Library.{Library}
 use Rattle.lef_text.specs.declared.library.ViaLines.{ViaLines}
 use Rattle.lef_text.specs.declared.via_words.ViaLine.{ViaLine}
 use Rattle.lef_text.specs.declared.via_words.ViaLine.TheVariants as lines
 use Rattle.lef_text.specs.declared.statement_words.Statement.{Statement}
 use Rattle.lef_text.specs.declared.statement_words.Statement.TheVariants as statements
-use Rattle.lef_text.specs.IsLef.{IsLef, IsVia, IsOn, AreDistinct, is_path_word}
+use Rattle.std.proofs.lemmas.List.Elements.{All-head, All-tail, All-cons}
+use Rattle.lef_text.specs.IsLef.{has_few_pins, IsLef, IsMacro, IsVia, IsOn, AreDistinct, is_path_word}
 use Rattle.lef_text.specs.Words.{via_line_of, statement_of}
 use Rattle.lef_text.specs.Numbers.{number, first_number, is_refused_shape, corner, rectangle}
+use Rattle.lef_text.specs.Layers as layers
 use Rattle.lef_text.specs.Vias as vias
 use Rattle.lef_text.specs.Lef as lefs
-use Rattle.lef_text.proofs.Yields.{Yields, yields_bind, yields_then, yields_done, yields_refused, yields_one, OfTurn, yields_loop, yields_text}
+use Rattle.lef_text.proofs.Yields.{Yields, yields_bind, yields_then, yields_check, yields_done, yields_refused, yields_one, yields_choose, OfTurn, yields_loop, yields_text}
 use Rattle.lef_text.proofs.Small.{decimal_small, passed, passed_so, ok_is}
-use Rattle.lef_text.proofs.Sound.{IsSound, IsNumber, SoundTurn, yields_layer, on_line, distinct_push, none_equal, not_false, last_of}
-
--- ---- rectangles
-
-yields_number : (units : ℕ) → Yields (number units) (IsWithin (2 ^ 30))
-yields_number units = yields_one _ _ (λ p n h. decimal_small p.word units n (on_line Number p.line _ n h))
-
-first_small : (in_macro : Bool) (units : ℕ) (p : Place) (n : ℤ) → first_number in_macro units p ≡ Ok n → IsWithin (2 ^ 30) n
-first_small in_macro units p n h =
-    let a = passed (is_refused_shape in_macro p.word) _ _ n h in
-    decimal_small p.word units n (on_line Number p.line _ n a.1)
-
-min_small : (m n : ℤ) → IsWithin (2 ^ 30) m → IsWithin (2 ^ 30) n → IsWithin (2 ^ 30) (int_min m n)
-min_small m n h g = omega (arith, ints, int_min_is m n)
-
-max_small : (m n : ℤ) → IsWithin (2 ^ 30) m → IsWithin (2 ^ 30) n → IsWithin (2 ^ 30) (int_max m n)
-max_small m n h g = omega (arith, ints, int_max_is m n)
-
-hull_small : (x y x' y' : ℤ) → IsWithin (2 ^ 30) x → IsWithin (2 ^ 30) y → IsWithin (2 ^ 30) x' → IsWithin (2 ^ 30) y' → AreSidesWithin (2 ^ 30) (hull_of (corner x y) (corner x' y'))
-hull_small x y x' y' a b c d = (min_small x x' a c, min_small y y' b d, max_small x x' a c, max_small y y' b d)
-
-pub yields_rectangle : (in_macro : Bool) (units : ℕ) → Yields (rectangle in_macro units) (AreSidesWithin (2 ^ 30))
-unfolding rectangle
-yields_rectangle in_macro units =
-    let S = IsWithin (2 ^ 30) in
-    let P = AreSidesWithin (2 ^ 30) in
-    yields_bind (one (first_number in_macro units)) _ S P (yields_one _ _ (λ p n h. first_small in_macro units p n h)) (λ x a.
-    yields_bind (number units) _ S P (yields_number units) (λ y b.
-    yields_bind (number units) _ S P (yields_number units) (λ x' c.
-    yields_bind (number units) _ S P (yields_number units) (λ y' d.
-    yields_then semicolon _ P (λ u. yields_done _ P (hull_small x y x' y' a b c d))))))
+use Rattle.lef_text.proofs.Rectangles.{yields_number, yields_rectangle, yields_polygon, slice_get_all}
+use Rattle.lef_text.proofs.SoundMacros.{yields_macro}
+use Rattle.lef_text.proofs.Sound.{IsMacroRead, IsSound, IsNumber, SoundTurn, yields_layer, on_line, distinct_push, none_equal, not_false, last_of}
 
 -- ---- layers by name
-
-slice_get_all : {X : Type 0} (P : X → Type 0) (xs : List X) (k : ℕ) (x : X) → All P xs → slice_get xs k ≡ Some x → P x
-slice_get_all {X} P xs k x all h =
-    elim ((slice_get_cases xs k).1) [
-      | inl c ↦
-          let same : c.0 ≡ x = some_is c.0 x (sym c.2 ∙ h) in
-          let at : P (slice_index_or xs k c.0) = All-get_or P xs k c.0 c.1 all in
-          subst P (c.3 ∙ same) at
-      | inr c ↦ absurd (none_is x (sym c.1 ∙ h))
-    ]
-  where
-    some_is : (x y : X) → Some x ≡ Some y → x ≡ y
-    some_is x y h = cc
-
-    none_is : (x : X) → None ≡ Some x → ⊥
-    none_is x h = cc
 
 abbrev IfKnown : ℕ → Option LayerNo → Type 0
 IfKnown layers o = IsNumber layers o
@@ -119,19 +83,23 @@ yields_rect units layers s w (Some l) h n =
     yields_bind (rectangle false units) _ (AreSidesWithin (2 ^ 30)) (LinesTurn layers) (yields_rectangle false units)
     (λ r small. yields_done _ (LinesTurn layers) (record { layer = h.layer; rects = shape_ok layers s.rects l r h.rects n small }))
 
+yields_generated : {A : Type 0} (P : A → Type 0) (w : Place) (l : Option (Option LayerNo)) → Yields (vias.generated_line {A = A} w l) P
+yields_generated P w None = yields_refused _ P
+yields_generated P w (Some l) = yields_refused _ P
+
 yields_via_line : (units : ℕ) (lib : Library) (name : List ℕ) (s : ViaLines) (w : Place) (k : ViaLine) → All (IsNumber (length lib.layers)) lib.numbers → AreLines (length lib.layers) s → Yields (vias.line_by units lib name s w k) (LinesTurn (length lib.layers))
 yields_via_line units lib name s w lines.Layer all h =
     let P = LinesTurn (length lib.layers) in
     yields_bind (one (vias.layer_word lib)) _ (IsNumber (length lib.layers)) P (yields_one _ _ (λ p l e. layer_word_is lib p l all e)) (λ l n. yields_then semicolon _ P (λ u. yields_done _ P (record { layer = n; rects = h.rects })))
 yields_via_line units lib name s w lines.Rect all h = yields_rect units (length lib.layers) s w s.layer h h.layer
-yields_via_line units lib name s w lines.Polygon all h = yields_refused _ (LinesTurn (length lib.layers))
+yields_via_line units lib name s w lines.Polygon all h = yields_polygon (LinesTurn (length lib.layers)) w s.layer
 yields_via_line units lib name s w lines.Unused all h = yields_then rest _ (LinesTurn (length lib.layers)) (λ u. yields_done (More s) (LinesTurn (length lib.layers)) h)
-yields_via_line units lib name s w lines.Rule all h = yields_refused _ (LinesTurn (length lib.layers))
-yields_via_line units lib name s w lines.CutSize all h = yields_refused _ (LinesTurn (length lib.layers))
-yields_via_line units lib name s w lines.Layers all h = yields_refused _ (LinesTurn (length lib.layers))
-yields_via_line units lib name s w lines.CutSpacing all h = yields_refused _ (LinesTurn (length lib.layers))
-yields_via_line units lib name s w lines.Enclosure all h = yields_refused _ (LinesTurn (length lib.layers))
-yields_via_line units lib name s w lines.RowCol all h = yields_refused _ (LinesTurn (length lib.layers))
+yields_via_line units lib name s w lines.Rule all h = yields_generated (LinesTurn (length lib.layers)) w s.layer
+yields_via_line units lib name s w lines.CutSize all h = yields_generated (LinesTurn (length lib.layers)) w s.layer
+yields_via_line units lib name s w lines.Layers all h = yields_generated (LinesTurn (length lib.layers)) w s.layer
+yields_via_line units lib name s w lines.CutSpacing all h = yields_generated (LinesTurn (length lib.layers)) w s.layer
+yields_via_line units lib name s w lines.Enclosure all h = yields_generated (LinesTurn (length lib.layers)) w s.layer
+yields_via_line units lib name s w lines.RowCol all h = yields_generated (LinesTurn (length lib.layers)) w s.layer
 yields_via_line units lib name s w lines.Refused all h = yields_refused _ (LinesTurn (length lib.layers))
 yields_via_line units lib name s w lines.End all h = yields_then (the_word name) _ (LinesTurn (length lib.layers)) (λ u. yields_done (Done s) (LinesTurn (length lib.layers)) h)
 yields_via_line units lib name s w lines.Unknown all h = yields_refused _ (LinesTurn (length lib.layers))
@@ -206,7 +174,7 @@ yields_statement units lib w statements.Site h = yields_then lefs.named_section 
 yields_statement units lib w statements.Rule h = yields_then lefs.named_section _ SoundTurn (λ u. yields_done _ SoundTurn (sections_sound lib (lib.sections + 1) h))
 yields_statement units lib w statements.Layer h = yields_layer units lib h
 yields_statement units lib w statements.Via h = yields_via units lib h
-yields_statement units lib w statements.Macro h = yields_refused _ SoundTurn
+yields_statement units lib w statements.Macro h = yields_macro units lib h
 yields_statement units lib w statements.End h = yields_then (the_word (codes "LIBRARY")) _ SoundTurn (λ u. yields_done (Done lib) SoundTurn h)
 yields_statement units lib w statements.Unknown h = yields_refused _ SoundTurn
 
@@ -242,19 +210,40 @@ yields_lef units =
     (yields_text (lefs.statement units) lefs.empty IsSound (λ lib h. yields_then next _ SoundTurn (λ w. yields_statement units lib w (statement_of w.word) h)) empty_sound)
     (λ lib h. yields_done (lefs.lef_of lib) IsLefSound (record { is_sound = (lib, h, refl) }))
 
-pub is_lef : (l : Lef) → IsLefSound l → length l.layers < 2 ^ 32 → length l.vias < 2 ^ 32 → length l.macros < 2 ^ 32 → IsLef l
-is_lef l s a b c =
+both_true : (a b : Bool) → (a && b) ≡ true → (a ≡ true) × (b ≡ true)
+both_true true b h = (refl, h)
+both_true false b h = absurd cc
+
+few_is : (n : ℕ) → nat_lt n (2 ^ 32) ≡ true → n < 2 ^ 32
+few_is n h = grind (arith, nat_tests)
+
+few_all : (ms : List Macro) → list_all has_few_pins ms ≡ true → All (λ (m : Macro). length m.pins < 2 ^ 32) ms
+few_all [] h = All-nil _
+few_all (m ∷ ms) h =
+    let both = both_true (has_few_pins m) (list_all has_few_pins ms) h in
+    All-cons (λ (k : Macro). length k.pins < 2 ^ 32) m ms (few_is (length m.pins) both.0) (few_all ms both.1)
+
+macro_is : (layers : ℕ) (ms : List Macro) → All (IsMacroRead layers) ms → All (λ (m : Macro). length m.pins < 2 ^ 32) ms → All (IsMacro layers) ms
+macro_is layers [] h f = All-nil (IsMacro layers)
+macro_is layers (m ∷ ms) h f =
+    let q = All-head (IsMacroRead layers) m ms h in
+    let few = All-head (λ (k : Macro). length k.pins < 2 ^ 32) m ms f in
+    All-cons (IsMacro layers) m ms (record { name = q.name; w = q.w; h = q.h; pins = q.pins; few_pins = few; obs = q.obs }) (macro_is layers ms (All-tail (IsMacroRead layers) m ms h) (All-tail (λ (k : Macro). length k.pins < 2 ^ 32) m ms f))
+
+pub is_lef : (l : Lef) → IsLefSound l → length l.layers < 2 ^ 32 → length l.vias < 2 ^ 32 → length l.macros < 2 ^ 32 → list_all has_few_pins l.macros ≡ true → IsLef l
+is_lef l s a b c d =
     let lib = s.is_sound.0 in
     let h = s.is_sound.1 in
     let e = s.is_sound.2 in
     let a' : length lib.layers < 2 ^ 32 = subst (λ (k : Lef). length k.layers < 2 ^ 32) e a in
     let b' : length lib.vias < 2 ^ 32 = subst (λ (k : Lef). length k.vias < 2 ^ 32) e b in
     let c' : length lib.macros < 2 ^ 32 = subst (λ (k : Lef). length k.macros < 2 ^ 32) e c in
+    let d' : list_all has_few_pins lib.macros ≡ true = subst (λ (k : Lef). list_all has_few_pins k.macros ≡ true) e d in
     subst IsLef (sym e) (record {
       layers = h.layers;
       directions = h.alternate;
       vias = h.vias;
-      macros = h.macros;
+      macros = macro_is (length lib.layers) lib.macros h.macros (few_all lib.macros d');
       layer_names = h.layers_apart;
       via_names = rw h.vias_named h.via_names;
       macro_names = rw h.macros_named h.macro_names;

@@ -1,12 +1,13 @@
 -- LAYER of LEF (LEF/DEF 5.8 Language Reference, LEF LAYER (Cut) and LAYER (Routing)).
-use Rattle.std.specs.Prelude.{ℕ, ◌+◌, ◌%◌, ◌==◌, List, [], ◌∷◌, ◌++◌, length, Result, Ok, Err, Option, Some, None, ℤ, pos, unsigned_abs, unwrap_or, bytes_eq, codes, if◌then◌else◌, Bool, true, false, not}
+use Rattle.std.specs.Prelude.{ℕ, ◌+◌, ◌%◌, ◌==◌, List, [], ◌∷◌, ◌++◌, length, map, position, Result, Ok, Err, Option, Some, None, ℤ, pos, unsigned_abs, unwrap_or, bytes_eq, codes, slice_get, if◌then◌else◌, Bool, true, false, not, ◌&&◌}
 use Rattle.std.specs.Int.{int_max}
 use Rattle.std.specs.List.{list_any}
+use Rattle.rt_base.specs.declared.tech.LayerNo.{LayerNo}
 use Rattle.rt_base.specs.declared.tech.Layer.{Layer}
 use Rattle.rt_base.specs.declared.tech.SpacingTable.{SpacingTable}
 use Rattle.rt_forms.specs.Lexeme.{Place}
 use Rattle.rt_forms.specs.Form.{Form, next, one, admit, check, done, ◌>>=◌, choose, loop, Turn, More, Done}
-use Rattle.rt_forms.specs.Reading.{the_word, semicolon, rest, is_name_word, if_so}
+use Rattle.rt_forms.specs.Reading.{the_word, semicolon, rest, up_to_word, is_name_word, if_so}
 use Rattle.lef_text.specs.declared.error.LefError.{LefError}
 use Rattle.lef_text.specs.declared.error.LefError.TheVariants.{Expected, Unknown, Twice, Refused, LayerWithout, OddWidth, SameDirection, NotYet}
 use Rattle.lef_text.specs.declared.error.What.{What}
@@ -19,6 +20,7 @@ use Rattle.lef_text.specs.declared.layer_words.LayerLine.{LayerLine}
 use Rattle.lef_text.specs.declared.layer_words.LayerLine.TheVariants as lines
 use Rattle.lef_text.specs.Words.{layer_line_of}
 use Rattle.lef_text.specs.Numbers.{length_line, length_at_least}
+use Rattle.lef_text.specs.Tables.{counted, counted_line, greatest, table_line, density_line}
 
 -- a name that none of these is
 abbrev pub new_name : List (List ℕ) → Place → Result Place LefError
@@ -44,9 +46,6 @@ layer_type = do
 
 -- ---- lines of routing and cut layers
 
-abbrev pub counted : LayerLines → Turn LayerLines
-counted s = More (record s { skipped = s.skipped + 1 })
-
 abbrev pub direction_word : Place → Result Bool LefError
 direction_word p =
     if bytes_eq p.word (codes "HORIZONTAL") then Ok true
@@ -64,11 +63,6 @@ abbrev pub width_line : ℕ → LayerLines → Form LefError (Turn LayerLines)
 width_line units s = do
   w ← length_line units (pos 1)
   done (More (record s { width = Some w }))
-
--- the greatest spacing, with one more
-abbrev pub greatest : Option ℤ → ℤ → ℤ
-greatest None n = n
-greatest (Some m) n = int_max m n
 
 abbrev pub with_spacing : LayerLines → Result ℤ LefError → Result (Turn LayerLines) LefError
 with_spacing s (Ok n) = Ok (More (record s { spacing = Some (greatest s.spacing n) }))
@@ -119,12 +113,6 @@ end_of_layer top s = do
   _ ← the_word s.name
   done (Done s)
 
--- the rest of a line that isn't used
-abbrev pub counted_line : LayerLines → Form LefError (Turn LayerLines)
-counted_line s = do
-  _ ← rest
-  done (counted s)
-
 abbrev pub other_line : Place → LayerLines → Form LefError (Turn LayerLines)
 other_line w s = choose (is_name_word w.word) (counted_line s) (check (Err (Unknown w.line)))
 
@@ -135,8 +123,8 @@ line_by units top s w lines.Unused = do
   done (More s)
 line_by units top s w lines.Width = width_line units s
 line_by units top s w lines.Spacing = spacing_line units s
-line_by units top s w lines.SpacingTable = check (Err (NotYet w.line))
-line_by units top s w lines.CurrentDensity = check (Err (NotYet w.line))
+line_by units top s w lines.SpacingTable = table_line units s
+line_by units top s w lines.CurrentDensity = density_line s
 line_by units top s w lines.End = end_of_layer top s
 line_by units top s w lines.Other = other_line w s
 

@@ -1,11 +1,11 @@
 -- The whole text (LEF/DEF 5.8 Language Reference, LEF Syntax).
-use Rattle.std.specs.Prelude.{◌≡◌, ◌≢◌, ℕ, ◌+◌, List, [], ◌∷◌, ◌++◌, Result, Ok, Err, IfOk, IfErr, None, bytes_eq, codes, ◌⊎◌}
+use Rattle.std.specs.Prelude.{◌≡◌, ◌≢◌, ℕ, ◌+◌, List, [], ◌∷◌, ◌++◌, Result, Ok, Err, IfOk, IfErr, Option, Some, None, bytes_eq, codes, ◌⊎◌}
 use Rattle.rt_base.specs.declared.token.Token.{Token}
 use Rattle.rt_base.specs.declared.scan.ScanError.{ScanError}
 use Rattle.rt_base.specs.declared.scan.ScanError.TheVariants as scans
 use Rattle.rt_base.specs.Scan.{IsCutInto, Reads as ScansAs}
 use Rattle.rt_forms.specs.Lexeme.{Place}
-use Rattle.rt_forms.specs.Form.{Form, next, check, done, ◌>>=◌, choose, loop, Turn, More, Done, text}
+use Rattle.rt_forms.specs.Form.{Form, next, one, check, done, ◌>>=◌, choose, loop, Turn, More, Done, text}
 use Rattle.rt_forms.specs.Reading.{the_word, a_name, semicolon, rest, up_to_word, up_to_pair, is_name_word}
 use Rattle.rt_forms.specs.Clauses.{Gives, IsText, IsRefused}
 use Rattle.lef_text.specs.declared.error.LefError.{LefError}
@@ -19,6 +19,7 @@ use Rattle.lef_text.specs.Words.{statement_of}
 use Rattle.lef_text.specs.Numbers.{count}
 use Rattle.lef_text.specs.Layers.{layer_statement}
 use Rattle.lef_text.specs.Vias.{via_statement}
+use Rattle.lef_text.specs.Macros.{macro_statement}
 
 -- ---- UNITS
 
@@ -94,7 +95,7 @@ statement_by units lib w statements.Site = site lib
 statement_by units lib w statements.Rule = rule lib
 statement_by units lib w statements.Layer = layer_statement units lib
 statement_by units lib w statements.Via = via_statement units lib
-statement_by units lib w statements.Macro = check (Err (NotYet w.line))
+statement_by units lib w statements.Macro = macro_statement units lib
 statement_by units lib w statements.End = end_of_library lib
 statement_by units lib w statements.Unknown = check (Err (Unknown w.line))
 

@@ -2,6 +2,9 @@ pub mod Faults
 pub mod IsLef
 pub mod Words
 pub mod Numbers
+pub mod Tables
 pub mod Layers
 pub mod Vias
+pub mod Shapes
+pub mod Macros
 pub mod Lef

@@ -1,8 +1,9 @@
 -- VIA of LEF (LEF/DEF 5.8 Language Reference, LEF VIA).
-use Rattle.std.specs.Prelude.{ℕ, List, [], ◌∷◌, ◌++◌, position, Result, Ok, Err, Option, Some, None, bytes_eq, codes, slice_get, if◌then◌else◌, Bool, true, false, not}
+use Rattle.std.specs.Prelude.{◌≡◌, ℕ, List, [], ◌∷◌, ◌++◌, position, Result, Ok, Err, Option, Some, None, bytes_eq, codes, slice_get, if◌then◌else◌, Bool, true, false, not, ◌||◌}
 use Rattle.std.specs.List.{list_any}
 use Rattle.rt_base.specs.Sides.{Sides}
 use Rattle.rt_base.specs.declared.tech.LayerNo.{LayerNo}
+use Rattle.rt_base.specs.declared.tech.Via.{Via}
 use Rattle.rt_forms.specs.Lexeme.{Place}
 use Rattle.rt_forms.specs.Form.{Form, next, one, check, done, ◌>>=◌, choose, loop, Turn, More, Done}
 use Rattle.rt_forms.specs.Reading.{the_word, semicolon, rest, at, is_name_word}
@@ -69,17 +70,27 @@ end_line name s = do
   _ ← the_word name
   done (Done s)
 
+-- a polygon, which isn't read yet, on a layer
+abbrev pub polygon_line : {A : Type 0} → Place → Option (Option LayerNo) → Form LefError A
+polygon_line w None = unknown w
+polygon_line w (Some layer) = check (Err (NotYet w.line))
+
+-- a line of the generated form, which isn't read yet, where no LAYER stands before
+abbrev pub generated_line : {A : Type 0} → Place → Option (Option LayerNo) → Form LefError A
+generated_line w None = check (Err (NotYet w.line))
+generated_line w (Some layer) = unknown w
+
 abbrev pub line_by : ℕ → Library → List ℕ → ViaLines → Place → ViaLine → Form LefError (Turn ViaLines)
 line_by units lib name s w lines.Layer = layer_line lib s
 line_by units lib name s w lines.Rect = rect_line units s w s.layer
-line_by units lib name s w lines.Polygon = check (Err (NotYet w.line))
+line_by units lib name s w lines.Polygon = polygon_line w s.layer
 line_by units lib name s w lines.Unused = unused_line s
-line_by units lib name s w lines.Rule = check (Err (NotYet w.line))
-line_by units lib name s w lines.CutSize = check (Err (NotYet w.line))
-line_by units lib name s w lines.Layers = check (Err (NotYet w.line))
-line_by units lib name s w lines.CutSpacing = check (Err (NotYet w.line))
-line_by units lib name s w lines.Enclosure = check (Err (NotYet w.line))
-line_by units lib name s w lines.RowCol = check (Err (NotYet w.line))
+line_by units lib name s w lines.Rule = generated_line w s.layer
+line_by units lib name s w lines.CutSize = generated_line w s.layer
+line_by units lib name s w lines.Layers = generated_line w s.layer
+line_by units lib name s w lines.CutSpacing = generated_line w s.layer
+line_by units lib name s w lines.Enclosure = generated_line w s.layer
+line_by units lib name s w lines.RowCol = generated_line w s.layer
 line_by units lib name s w lines.Refused = refused_line w
 line_by units lib name s w lines.End = end_line name s
 line_by units lib name s w lines.Unknown = unknown w

@@ -6,6 +6,10 @@ use Rattle.lef_text.specs.declared.layer_words.LayerLine.{LayerLine}
 use Rattle.lef_text.specs.declared.layer_words.LayerLine.TheVariants as layer_lines
 use Rattle.lef_text.specs.declared.via_words.ViaLine.{ViaLine}
 use Rattle.lef_text.specs.declared.via_words.ViaLine.TheVariants as via_lines
+use Rattle.lef_text.specs.declared.macro_words.MacroLine.{MacroLine}
+use Rattle.lef_text.specs.declared.macro_words.MacroLine.TheVariants as macro_lines
+use Rattle.lef_text.specs.declared.shape_words.ShapeLine.{ShapeLine}
+use Rattle.lef_text.specs.declared.shape_words.ShapeLine.TheVariants as shape_lines
 
 unfoldable pub statement_of : List ℕ → Statement
 statement_of word =
@@ -50,3 +54,28 @@ via_line_of word =
     else if bytes_eq word (codes "MASK") || bytes_eq word (codes "ORIGIN") || bytes_eq word (codes "OFFSET") || bytes_eq word (codes "PATTERN") then via_lines.Refused
     else if bytes_eq word (codes "END") then via_lines.End
     else via_lines.Unknown
+
+-- a line of a macro
+unfoldable pub macro_line_of : List ℕ → MacroLine
+macro_line_of word =
+    if bytes_eq word (codes "SIZE") then macro_lines.Size
+    else if bytes_eq word (codes "ORIGIN") then macro_lines.Origin
+    else if bytes_eq word (codes "PIN") then macro_lines.Pin
+    else if bytes_eq word (codes "OBS") then macro_lines.Obs
+    else if bytes_eq word (codes "DENSITY") then macro_lines.Density
+    else if bytes_eq word (codes "TIMING") then macro_lines.Timing
+    else if bytes_eq word (codes "CLASS") || bytes_eq word (codes "FOREIGN") || bytes_eq word (codes "SYMMETRY") || bytes_eq word (codes "SITE") || bytes_eq word (codes "EEQ") || bytes_eq word (codes "SOURCE") || bytes_eq word (codes "FIXEDMASK") || bytes_eq word (codes "PROPERTY") then macro_lines.Unused
+    else if bytes_eq word (codes "END") then macro_lines.End
+    else macro_lines.Unknown
+
+-- a line of PORT or OBS
+unfoldable pub shape_line_of : List ℕ → ShapeLine
+shape_line_of word =
+    if bytes_eq word (codes "CLASS") then shape_lines.Unused
+    else if bytes_eq word (codes "LAYER") then shape_lines.Layer
+    else if bytes_eq word (codes "WIDTH") then shape_lines.Width
+    else if bytes_eq word (codes "RECT") then shape_lines.Rect
+    else if bytes_eq word (codes "POLYGON") then shape_lines.Polygon
+    else if bytes_eq word (codes "PATH") || bytes_eq word (codes "VIA") || bytes_eq word (codes "MASK") || bytes_eq word (codes "ITERATE") then shape_lines.Refused
+    else if bytes_eq word (codes "END") then shape_lines.End
+    else shape_lines.Unknown

@@ -5,12 +5,13 @@ ghost use Rattle.rt_forms.specs.Form.{one, loop, More, Done, turn};
 ghost use Rattle.rt_forms.specs.Word.{place_of};
 ghost use Rattle.lef_text.specs.declared.error.LefError.TheVariants.{Memory as OutOfMemory};
 ghost use Rattle.lef_text.specs.Faults.{lef_faults};
-ghost use Rattle.lef_text.specs.Layers.{new_name as new_name_form, layer_type as layer_type_form, direction_word, spacing_line as spacing_line_form, counted, lack_of, crosses, whole_layer as whole_layer_form, end_of_layer as end_of_layer_form, layer_line as layer_line_form, dropped_line as dropped_line_form, greatest as greatest_form, layer_at_end, top_at_end, with_layer, with_dropped, used_layer as used_layer_form, dropped_layer as dropped_layer_form, layer_statement as layer_statement_form};
+ghost use Rattle.lef_text.specs.Layers.{new_name as new_name_form, layer_type as layer_type_form, direction_word, spacing_line as spacing_line_form, lack_of, crosses, whole_layer as whole_layer_form, end_of_layer as end_of_layer_form, layer_line as layer_line_form, dropped_line as dropped_line_form, layer_at_end, top_at_end, with_layer, with_dropped, used_layer as used_layer_form, dropped_layer as dropped_layer_form, layer_statement as layer_statement_form};
 
 use crate::error::{LefError, What};
 use crate::layer_words::{LayerLine, layer_line_of};
 use crate::library::{LayerLines, LayerType, Library};
 use crate::numbers::{Words, length_at_least, length_line};
+use crate::tables::{count_line, density_line, greatest, table_line};
 use rt_base::{Layer, LayerNo, Name, Seq, SpacingTable};
 use rt_forms::{Names, Word};
 use std::alloc::Global;
@@ -78,29 +79,6 @@ fn direction(alloc: Global, words: &mut Words) -> Result<bool, LefError>
         line: word.line,
         word: Name::new(alloc, word.bytes)?,
     })
-}
-
-/// Counts a line.
-fn count_line(lines: &mut LayerLines) -> Result<(), LefError>
-    ensures ok { OnOk result (More lines.new ≡ counted lines.old) }
-    ensures err { IfErr result (λ e. e ≡ OutOfMemory) }
-{
-    match lines.skipped.checked_add(1) {
-        Some(skipped) => {
-            lines.skipped = skipped;
-            Ok(())
-        }
-        None => Err(LefError::Memory),
-    }
-}
-
-fn greatest(spacing: Option<i64>, n: i64) -> i64
-    ensures { result ≡ greatest_form spacing n }
-{
-    match spacing {
-        None => n,
-        Some(m) => m.max(n),
-    }
 }
 
 /// `SPACING v ;` behind its first word, or another form of it, which is counted.
@@ -234,8 +212,14 @@ fn layer_line(
             spacing_line(words, units, lines)?;
             Ok(false)
         }
-        LayerLine::SpacingTable => Err(LefError::NotYet { line: word.line }),
-        LayerLine::CurrentDensity => Err(LefError::NotYet { line: word.line }),
+        LayerLine::SpacingTable => {
+            table_line(alloc, words, units, lines)?;
+            Ok(false)
+        }
+        LayerLine::CurrentDensity => {
+            density_line(words, lines)?;
+            Ok(false)
+        }
         LayerLine::End => {
             end_of_layer(alloc, words, top, lines)?;
             Ok(true)

@@ -6,9 +6,14 @@ mod layer_words;
 mod layers;
 mod lef;
 mod library;
+mod macro_words;
+mod macros;
 mod numbers;
 mod read;
+mod shape_words;
+mod shapes;
 mod statement_words;
+mod tables;
 #[cfg(test)]
 mod tests;
 mod text;

@@ -1,6 +1,6 @@
 //! What is read so far.
 use crate::lef::Macro;
-use rt_base::{Layer, LayerNo, Name, Rect, Seq, SpacingTable, Via};
+use rt_base::{Layer, LayerNo, Name, Point, Rect, Seq, SpacingTable, Via};
 use rt_forms::Names;
 
 /// What is read of a text so far.
@@ -52,4 +52,30 @@ pub struct ViaLines {
     /// The last LAYER; `Some(None)` where it is dropped.
     pub layer: Option<Option<LayerNo>>,
     pub rects: Seq<(LayerNo, Rect)>,
+}
+
+/// The lengths of a spacing table so far, and the last of them.
+#[derive(Drop)]
+pub struct Lengths {
+    pub numbers: Seq<i64>,
+    pub last: Option<i64>,
+}
+
+/// The rows of a spacing table so far, and the width of the last of them.
+#[derive(Drop)]
+pub struct Rows {
+    pub rows: Seq<(i64, Seq<i64>)>,
+    pub last: Option<i64>,
+}
+
+/// The lines of a macro so far, before it is moved by its ORIGIN.
+#[derive(Drop)]
+pub struct MacroLines {
+    /// The last SIZE.
+    pub size: Point,
+    /// The last ORIGIN.
+    pub origin: Point,
+    pub pins: Seq<(Name, Seq<(LayerNo, Rect)>)>,
+    pub pin_names: Names,
+    pub obs: Seq<(LayerNo, Rect)>,
 }

@@ -1,13 +1,14 @@
 //! Reading a LEF text.
 ghost use Rattle.std.specs.Prelude.{◌≡◌, ◌<◌, ◌^◌, length, IfOk, IsTrue};
+ghost use Rattle.std.specs.List.{list_all};
 ghost use Rattle.rt_base.specs.Tokens.{AllInside};
 ghost use Rattle.rt_forms.specs.Clauses.{ReadsText};
 ghost use Rattle.lef_text.specs.Faults.{lef_faults};
-ghost use Rattle.lef_text.specs.IsLef.{IsLef};
+ghost use Rattle.lef_text.specs.IsLef.{IsLef, has_few_pins};
 ghost use Rattle.lef_text.specs.Lef.{lef as lef_form, ReadsBytes, scan_fault};
 
 use crate::error::LefError;
-use crate::lef::Lef;
+use crate::lef::{Lef, Macro};
 use crate::numbers::Words;
 use crate::text::lef;
 use rt_base::{ScanError, Token, tokens};
@@ -25,13 +26,32 @@ fn value(alloc: Global, text: &[u8], tokens: &[Token], units: u32) -> Result<Lef
 /// More than any text below 2^32 bytes has of anything.
 const MANY: usize = 1 << 32;
 
-/// Whether the numbers of layers, of vias and of macros fit 32 bits, as in each text below 2^32 bytes.
+/// Whether the numbers of layers, of vias, of macros and of each macro's pins fit 32 bits, as in each
+/// text below 2^32 bytes.
 fn is_countable(lef: &Lef) -> bool
     ensures layers { IsTrue result → length lef.now.layers < 2 ^ 32 }
     ensures vias { IsTrue result → length lef.now.vias < 2 ^ 32 }
     ensures macros { IsTrue result → length lef.now.macros < 2 ^ 32 }
+    ensures pins { IsTrue result → IsTrue (list_all has_few_pins lef.now.macros) }
 {
-    lef.layers.len() < MANY && lef.vias.len() < MANY && lef.macros.len() < MANY
+    lef.layers.len() < MANY
+        && lef.vias.len() < MANY
+        && lef.macros.len() < MANY
+        && have_few_pins(lef.macros.as_slice())
+}
+
+/// Whether the number of a macro's pins fits 32 bits.
+fn has_few_pins(m: &Macro) -> bool
+    ensures { result ≡ has_few_pins m.now }
+{
+    m.pins.len() < MANY
+}
+
+/// Whether the number of each macro's pins fits 32 bits.
+fn have_few_pins(macros: &[Macro]) -> bool
+    ensures { result ≡ list_all has_few_pins macros.now }
+{
+    macros.iter().all(|m| has_few_pins(m))
 }
 
 /// Reads a LEF text that is cut into these tokens, lengths in `units` to the micron. Each refusal is

@@ -10,6 +10,7 @@ use crate::error::LefError;
 use crate::layers::layer_statement;
 use crate::lef::Lef;
 use crate::library::Library;
+use crate::macros::macro_statement;
 use crate::numbers::{Words, count};
 use crate::statement_words::{Statement, statement_of};
 use crate::vias::via_statement;
@@ -120,7 +121,10 @@ fn statement(
             via_statement(alloc, words, units, lib)?;
             Ok(false)
         }
-        Statement::Macro => Err(LefError::NotYet { line: word.line }),
+        Statement::Macro => {
+            macro_statement(alloc, words, units, lib)?;
+            Ok(false)
+        }
         Statement::End => {
             words.expect(b"LIBRARY")?;
             Ok(true)

@@ -105,13 +105,19 @@ fn via_line(
             Ok(true)
         }
         ViaLine::Unknown => Err(LefError::Unknown { line: word.line }),
-        ViaLine::Polygon
-        | ViaLine::Rule
+        ViaLine::Polygon => match lines.layer {
+            None => Err(LefError::Unknown { line: word.line }),
+            Some(_) => Err(LefError::NotYet { line: word.line }),
+        },
+        ViaLine::Rule
         | ViaLine::CutSize
         | ViaLine::Layers
         | ViaLine::CutSpacing
         | ViaLine::Enclosure
-        | ViaLine::RowCol => Err(LefError::NotYet { line: word.line }),
+        | ViaLine::RowCol => match lines.layer {
+            None => Err(LefError::NotYet { line: word.line }),
+            Some(_) => Err(LefError::Unknown { line: word.line }),
+        },
     }
 }
 

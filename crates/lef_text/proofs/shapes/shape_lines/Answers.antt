@@ -1,0 +1,11 @@
+use Rattle.rt_forms.proofs.Loops.{runs_more, runs_done, runs_err}
+use Rattle.lef_text.proofs.shapes.shape_lines.Goals as goal
+
+pub returns-in_err-shape_line : goal.returns-in_err-shape_line
+returns-in_err-shape_line c = runs_err _ _ _ c.lines.invariant c.in_err-shape_line.ensures c.from_residual.ensures.1
+
+pub lines-preserved : goal.lines-preserved
+lines-preserved c = runs_more c.lines.invariant c.in_ok-shape_line.ensures c.if-not-branch.true
+
+pub returns : goal.returns
+returns c = runs_done c.lines.invariant c.in_ok-shape_line.ensures c.if-not-branch.false
