@@ -1,12 +1,13 @@
 -- Each form is lawful.
-use Rattle.std.proofs.Common.{ℕ, List, [], codes}
+use Rattle.rt_forms.specs.Reading.{or_end}
+use Rattle.std.proofs.Common.{ℕ, List, [], codes, Bool}
 use Rattle.rt_forms.specs.Lexeme.{Place}
 use Rattle.rt_forms.specs.Form.{Form, next, loop, unless}
 use Rattle.rt_forms.proofs.Laws.{Lawful, Takes, lawful, consuming, lawful_loop, lawful_whole, lawful_unless, takes_bind, takes_next, consumes_bind, consumes_unless}
 use Rattle.rt_forms.proofs.Skips.{lawful_up_to, lawful_up_to_pair, lawful_before}
 use Rattle.def_text.specs.declared.error.DefError.{DefError}
 use Rattle.def_text.specs.declared.kinds.Statement.{Statement}
-use Rattle.def_text.specs.declared.kinds.Statement.TheVariants.{Units, Die, Tracks, Unused, Skipped, Extension, Pins, Nets, Later, End, Other}
+use Rattle.def_text.specs.declared.kinds.Statement.TheVariants.{Units, Die, Tracks, Unused, Skipped, Extension, Pins, Blockages, Nets, Later, End, Other}
 use Rattle.def_text.specs.declared.kinds.PinOption.{PinOption}
 use Rattle.def_text.specs.declared.kinds.PinOption.TheVariants.{Layer, Port as PortOption, Placed, Refused as RefusedInPin, Unused as UnusedInPin}
 use Rattle.def_text.specs.declared.kinds.BehindLayer.{BehindLayer}
@@ -19,12 +20,18 @@ use Rattle.def_text.specs.declared.pins.Ports.{Ports}
 use Rattle.def_text.specs.declared.nets.OpenNet.{OpenNet}
 use Rattle.def_text.specs.declared.sections.Listed.{Listed}
 use Rattle.def_text.specs.declared.statements.Parsed.{Parsed}
+use Rattle.def_text.specs.declared.blockages.BlockageOption.{BlockageOption}
+use Rattle.def_text.specs.declared.blockages.BlockageOption.TheVariants.{Drops, Rule as MarkRule, Unused as UnusedMark}
+use Rattle.def_text.specs.declared.blockages.Marks.{Marks}
+use Rattle.def_text.specs.declared.blockages.Blocked.{Blocked}
+use Rattle.def_text.specs.Blockages.{skip_word, ends_mark, mark_rest, mark_by, more_marks, no_mark, blockage_shape, more_shapes, blockage_shapes, blockage_layer, blockage_item, more_blockages}
+use Rattle.def_text.specs.Defs.{Metal}
 use Rattle.def_text.specs.Parts.{point}
 use Rattle.def_text.specs.Tracks.{die, more_layers, track_layers, track_tail, track_row}
 use Rattle.def_text.specs.Sections.{section_end, more_items, said_count}
 use Rattle.def_text.specs.Pins.{layer_rule, pin_layer, pin_port, pin_placed, pin_option_by, pin_option, more_pin, pin_item}
 use Rattle.def_text.specs.Nets.{connection_tail, connection, no_connection, connections, net_option_by, net_option, more_net, net_item}
-use Rattle.def_text.specs.Texts.{units_statement, die_statement, tracks_statement, pins_section, nets_section, statement_by, statement, a_def, def_form, until_units, units_form}
+use Rattle.def_text.specs.Texts.{units_statement, die_statement, tracks_statement, pins_section, nets_section, statement_by, statement, a_def, def_form, until_units, units_form, blockages_section}
 
 lawful_point : Lawful point
 unfolding point
@@ -148,6 +155,61 @@ lawful_net_item : (l : Listed DefNet) → Lawful (net_item l)
 unfolding net_item
 lawful_net_item l = search (lawful, lawful_connections, lawful_nets_options) depth 20
 
+-- ---- blockages
+
+lawful_mark_rest : Lawful mark_rest
+unfolding skip_word
+lawful_mark_rest = lawful_loop (unless (or_end ends_mark) skip_word) tt (λ u. lawful_unless (or_end ends_mark) skip_word u (search lawful)) (λ u. consumes_unless (or_end ends_mark) skip_word u (search consuming))
+
+lawful_mark_by : (kind : BlockageOption) (marks : Marks) → Lawful (mark_by kind marks)
+lawful_mark_by Drops marks = search lawful
+lawful_mark_by MarkRule marks = search lawful
+lawful_mark_by UnusedMark marks = search (lawful, lawful_mark_rest)
+
+lawful_more_marks : (marks : Marks) → Lawful (more_marks marks)
+unfolding more_marks
+lawful_more_marks marks = search (lawful, lawful_mark_by) depth 16
+
+lawful_marks : (marks : Marks) → Lawful (loop (unless no_mark more_marks) marks)
+unfolding more_marks
+lawful_marks marks = lawful_loop (unless no_mark more_marks) marks (λ u. lawful_unless no_mark more_marks u (lawful_more_marks u)) (λ u. consumes_unless no_mark more_marks u (search consuming))
+
+lawful_shape : (layer : List ℕ) (dropped : Bool) (w : Place) (metal : List Metal) → Lawful (blockage_shape layer dropped w metal)
+unfolding blockage_shape
+lawful_shape layer dropped w metal = search (lawful, lawful_point) depth 16
+
+lawful_more_shapes : (layer : List ℕ) (dropped : Bool) (metal : List Metal) → Lawful (more_shapes layer dropped metal)
+unfolding more_shapes
+lawful_more_shapes layer dropped metal = search (lawful, lawful_shape) depth 16
+
+lawful_further_shapes : (layer : List ℕ) (dropped : Bool) (metal : List Metal) → Lawful (loop (more_shapes layer dropped) metal)
+unfolding more_shapes
+lawful_further_shapes layer dropped metal = lawful_loop (more_shapes layer dropped) metal (lawful_more_shapes layer dropped) (λ u. search consuming)
+
+lawful_shapes : (layer : List ℕ) (dropped : Bool) (metal : List Metal) → Lawful (blockage_shapes layer dropped metal)
+unfolding blockage_shapes
+lawful_shapes layer dropped metal = search (lawful, lawful_shape, lawful_further_shapes)
+
+lawful_blockage_layer : (blocked : Blocked) → Lawful (blockage_layer blocked)
+unfolding blockage_layer
+lawful_blockage_layer blocked = search (lawful, lawful_marks, lawful_shapes) depth 16
+
+lawful_blockage_item : (blocked : Blocked) → Lawful (blockage_item blocked)
+unfolding blockage_item
+lawful_blockage_item blocked = search (lawful, lawful_blockage_layer, lawful_up_to) depth 16
+
+lawful_more_blockages : (said : ℕ) (blocked : Blocked) → Lawful (more_blockages said blocked)
+unfolding more_blockages
+lawful_more_blockages said blocked = search (lawful, lawful_blockage_item, lawful_section_end) depth 20
+
+lawful_blockages : (said : ℕ) (blocked : Blocked) → Lawful (loop (more_blockages said) blocked)
+unfolding more_blockages
+lawful_blockages said blocked = lawful_loop (more_blockages said) blocked (lawful_more_blockages said) (λ u. search consuming)
+
+lawful_blockages_section : (w : Place) (s : Parsed) → Lawful (blockages_section w s)
+unfolding blockages_section
+lawful_blockages_section w s = search (lawful, lawful_said_count, lawful_blockages) depth 16
+
 -- ---- texts
 
 lawful_pins : (said : ℕ) (l : Listed IoPin) → Lawful (loop (more_items (codes "PINS") said pin_item) l)
@@ -181,6 +243,7 @@ lawful_statement_by Units w s = lawful_units_statement w s
 lawful_statement_by Die w s = lawful_die_statement w s
 lawful_statement_by Tracks w s = lawful_tracks_statement s
 lawful_statement_by Pins w s = lawful_pins_section w s
+lawful_statement_by Blockages w s = lawful_blockages_section w s
 lawful_statement_by Nets w s = lawful_nets_section w s
 lawful_statement_by Unused w s = search (lawful, lawful_up_to)
 lawful_statement_by Skipped w s = search (lawful, lawful_up_to_pair)

@@ -6,3 +6,4 @@ pub mod Staying
 pub mod NetCloses
 pub mod Readers
 pub mod UnitsFirst
+pub mod Finishing

@@ -1,4 +1,5 @@
 -- What statements keep of what was read.
+use Rattle.def_text.specs.Blockages.{more_blockages}
 use Rattle.std.proofs.Common.{◌≡◌, ◌++◌, List, [], ◌∷◌, Some, refl, codes}
 use Rattle.rt_forms.specs.Lexeme.{Lexeme, Place}
 use Rattle.rt_forms.specs.Form.{Form, next, check, done, ◌>>=◌, loop, More, Done}
@@ -6,13 +7,13 @@ use Rattle.rt_forms.specs.Reading.{the_word, rest, up_to_word, up_to_pair}
 use Rattle.def_text.specs.declared.error.DefError.{DefError}
 use Rattle.def_text.specs.declared.statements.Parsed.{Parsed}
 use Rattle.def_text.specs.declared.kinds.Statement.{Statement}
-use Rattle.def_text.specs.declared.kinds.Statement.TheVariants.{Units, Die, Tracks, Unused, Skipped, Extension, Pins, Nets, Later, End as EndStatement, Other}
+use Rattle.def_text.specs.declared.kinds.Statement.TheVariants.{Units, Die, Tracks, Unused, Skipped, Extension, Pins, Blockages, Nets, Later, End as EndStatement, Other}
 use Rattle.def_text.specs.Kinds.{statement_of}
 use Rattle.def_text.specs.Sections.{said_count, more_items}
 use Rattle.def_text.specs.Parts.{once}
 use Rattle.def_text.specs.Pins.{pin_item}
 use Rattle.def_text.specs.Tracks.{die, track_row}
-use Rattle.def_text.specs.Texts.{units_statement, die_statement, tracks_statement, pins_section, nets_section, statement_by, statement}
+use Rattle.def_text.specs.Texts.{units_statement, die_statement, tracks_statement, pins_section, nets_section, statement_by, statement, blockages_section}
 use Rattle.def_text.proofs.Closes.{Leads, Lasts, ByTurn, leads_bind, leads_any, leads_done, leads_not}
 
 -- a fact of the units and the nets that were read and of the words that are left
@@ -47,11 +48,20 @@ pins_stay P stays w s =
     step P stays.lasts s (loop (more_items (codes "PINS") said pin_item) (record { names = []; items = []; skipped = s.skipped })) _ _ (λ l.
     kept P stays s (record s { pins = Some l.items; skipped = l.skipped }) refl refl)))
 
+blockages_stay : (P : Parsed → List Lexeme → Type 0) → Stays P → (w : Place) (s : Parsed) → Leads (P s) (blockages_section w s) (ByTurn P P)
+unfolding blockages_section
+blockages_stay P stays w s =
+    step P stays.lasts s (check (once s.blockages w)) _ _ (λ a.
+    step P stays.lasts s said_count _ _ (λ said.
+    step P stays.lasts s (loop (more_blockages said) (record { metal = []; found = 0; skipped = s.skipped })) _ _ (λ b.
+    kept P stays s (record s { blockages = Some b.metal; skipped = b.skipped }) refl refl)))
+
 by_stays : (P : Parsed → List Lexeme → Type 0) → Stays P → (kind : Statement) (w : Place) (s : Parsed) → Leads (P s) (statement_by kind w s) (ByTurn P P)
 by_stays P stays Units w s = stays.units w s
 by_stays P stays Die w s = die_stays P stays w s
 by_stays P stays Tracks w s = tracks_stay P stays s
 by_stays P stays Pins w s = pins_stay P stays w s
+by_stays P stays Blockages w s = blockages_stay P stays w s
 by_stays P stays Nets w s = stays.nets w s
 by_stays P stays Unused w s = step P stays.lasts s rest _ _ (λ a. kept P stays s s refl refl)
 by_stays P stays Skipped w s = step P stays.lasts s (up_to_pair (codes "END") w.word) _ _ (λ a. kept P stays s s refl refl)

@@ -2,7 +2,7 @@
 use Rattle.std.specs.Prelude.{ℕ, List, bytes_eq, codes, ◌||◌, if◌then◌else◌, Option, Some, None}
 use Rattle.rt_forms.specs.Lexeme.{Place}
 use Rattle.def_text.specs.declared.kinds.Statement.{Statement}
-use Rattle.def_text.specs.declared.kinds.Statement.TheVariants.{Units, Die, Tracks, Unused, Skipped, Extension, Pins, Nets, Later, End, Other}
+use Rattle.def_text.specs.declared.kinds.Statement.TheVariants.{Units, Die, Tracks, Unused, Skipped, Extension, Pins, Blockages, Nets, Later, End, Other}
 use Rattle.def_text.specs.declared.kinds.PinOption.{PinOption}
 use Rattle.def_text.specs.declared.kinds.PinOption.TheVariants.{Layer, Port, Placed, Refused as RefusedInPin, Unused as UnusedInPin}
 use Rattle.def_text.specs.declared.kinds.BehindLayer.{BehindLayer}
@@ -17,6 +17,7 @@ statement_of word =
     else if bytes_eq word (codes "TRACKS") then Tracks
     else if bytes_eq word (codes "PINS") then Pins
     else if bytes_eq word (codes "NETS") then Nets
+    else if bytes_eq word (codes "BLOCKAGES") then Blockages
     else if bytes_eq word (codes "VERSION") || bytes_eq word (codes "DIVIDERCHAR") || bytes_eq word (codes "BUSBITCHARS")
     || bytes_eq word (codes "NAMESCASESENSITIVE") || bytes_eq word (codes "DESIGN") || bytes_eq word (codes "TECHNOLOGY")
     || bytes_eq word (codes "HISTORY") || bytes_eq word (codes "ROW") || bytes_eq word (codes "GCELLGRID") then Unused
@@ -24,7 +25,7 @@ statement_of word =
     || bytes_eq word (codes "FILLS") || bytes_eq word (codes "SLOTS") || bytes_eq word (codes "NONDEFAULTRULES")
     || bytes_eq word (codes "PINPROPERTIES") || bytes_eq word (codes "STYLES") || bytes_eq word (codes "SCANCHAINS") then Skipped
     else if bytes_eq word (codes "BEGINEXT") then Extension
-    else if bytes_eq word (codes "VIAS") || bytes_eq word (codes "COMPONENTS") || bytes_eq word (codes "BLOCKAGES") || bytes_eq word (codes "SPECIALNETS") then Later
+    else if bytes_eq word (codes "VIAS") || bytes_eq word (codes "COMPONENTS") || bytes_eq word (codes "SPECIALNETS") then Later
     else if bytes_eq word (codes "END") then End
     else Other
 

@@ -8,3 +8,4 @@ pub mod Pins
 pub mod Nets
 pub mod Texts
 pub mod Clauses
+pub mod Blockages

@@ -1,4 +1,5 @@
 -- A DEF text: statements and sections in any order, ended by END DESIGN (DEF 5.8, Order of DEF Statements; that any order is admitted is this project's choice).
+use Rattle.def_text.specs.Blockages.{more_blockages}
 use Rattle.rt_base.specs.Sides.{Sides}
 use Rattle.std.specs.Prelude.{ℕ, List, [], ◌∷◌, ◌++◌, Result, Ok, Err, Option, Some, None, codes, ◌^◌, ◌≤◌, ◌<◌, length, All, IfSome}
 use Rattle.rt_forms.specs.Lexeme.{Place}
@@ -7,12 +8,12 @@ use Rattle.rt_forms.specs.Reading.{the_word, semicolon, rest, up_to_word, up_to_
 use Rattle.def_text.specs.declared.error.DefError.{DefError}
 use Rattle.def_text.specs.declared.error.DefError.TheVariants.{Unknown, Missing, NotYet}
 use Rattle.def_text.specs.declared.kinds.Statement.{Statement}
-use Rattle.def_text.specs.declared.kinds.Statement.TheVariants.{Units, Die, Tracks, Unused, Skipped, Extension, Pins, Nets, Later, End, Other}
+use Rattle.def_text.specs.declared.kinds.Statement.TheVariants.{Units, Die, Tracks, Unused, Skipped, Extension, Pins, Blockages, Nets, Later, End, Other}
 use Rattle.rt_base.specs.Ranges.{AreSidesWithin}
 use Rattle.def_text.specs.declared.def.Def.{Def}
 use Rattle.def_text.specs.declared.def.IoPin.{IoPin}
 use Rattle.def_text.specs.declared.def.DefNet.{DefNet}
-use Rattle.def_text.specs.Defs.{AreNamedApart, IsTrackRow, IsIoPin, IsDefNet}
+use Rattle.def_text.specs.Defs.{AreNamedApart, IsTrackRow, IsIoPin, IsDefNet, IsMetal}
 use Rattle.def_text.specs.declared.statements.Parsed.{Parsed}
 use Rattle.def_text.specs.Kinds.{statement_of}
 use Rattle.def_text.specs.Parts.{a_count, once}
@@ -23,7 +24,7 @@ use Rattle.def_text.specs.Nets.{net_item}
 
 -- nothing was read yet
 abbrev pub nothing_read : Parsed
-nothing_read = record { units = None; die = None; tracks = []; pins = None; nets = None; skipped = 0 }
+nothing_read = record { units = None; die = None; tracks = []; pins = None; blockages = None; nets = None; skipped = 0 }
 
 -- `UNITS DISTANCE MICRONS n ;`
 unfoldable pub units_statement : Place → Parsed → Form DefError (Turn Parsed)
@@ -53,6 +54,13 @@ pins_section w s = do
   listed ← loop (more_items (codes "PINS") said pin_item) (record { names = []; items = []; skipped = s.skipped })
   done (More (record s { pins = Some listed.items; skipped = listed.skipped }))
 
+unfoldable pub blockages_section : Place → Parsed → Form DefError (Turn Parsed)
+blockages_section w s = do
+  _ ← check (once s.blockages w)
+  said ← said_count
+  blocked ← loop (more_blockages said) (record { metal = []; found = 0; skipped = s.skipped })
+  done (More (record s { blockages = Some blocked.metal; skipped = blocked.skipped }))
+
 unfoldable pub nets_section : Place → Parsed → Form DefError (Turn Parsed)
 nets_section w s = do
   _ ← check (once s.nets w)
@@ -65,6 +73,7 @@ statement_by Units w s = units_statement w s
 statement_by Die w s = die_statement w s
 statement_by Tracks w s = tracks_statement s
 statement_by Pins w s = pins_section w s
+statement_by Blockages w s = blockages_section w s
 statement_by Nets w s = nets_section w s
 statement_by Unused w s = do
   _ ← rest
@@ -102,6 +111,7 @@ pub record IsParsed (s : Parsed) : Type 0 where
   pub pins : All IsIoPin (or_none s.pins)
   pub pin_names : AreNamedApart (λ (p : IoPin). p.name) (or_none s.pins)
   pub pin_count : length (or_none s.pins) < 2 ^ 32
+  pub blockages : All IsMetal (or_none s.blockages)
   pub nets : All IsDefNet (or_none s.nets)
   pub net_names : AreNamedApart (λ (n : DefNet). n.name) (or_none s.nets)
   pub net_count : length (or_none s.nets) < 2 ^ 32
@@ -117,7 +127,7 @@ finished_of (Some units) (Some sides) s = Ok (record {
   vias = [];
   components = [];
   pins = or_none s.pins;
-  blockages = [];
+  blockages = or_none s.blockages;
   special = [];
   nets = or_none s.nets;
   skipped = s.skipped;

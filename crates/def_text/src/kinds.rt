@@ -19,6 +19,7 @@ pub enum Statement {
     /// Skipped up to `ENDEXT`.
     Extension,
     Pins,
+    Blockages,
     Nets,
     /// Not built yet.
     Later,
@@ -153,12 +154,13 @@ pub fn statement_of(word: &[u8]) -> Statement
         TRACKS => Statement::Tracks,
         PINS => Statement::Pins,
         NETS => Statement::Nets,
+        BLOCKAGES => Statement::Blockages,
         VERSION | DIVIDERCHAR | BUSBITCHARS | NAMESCASESENSITIVE | DESIGN | TECHNOLOGY
             | HISTORY | ROW | GCELLGRID => Statement::Unused,
         PROPERTYDEFINITIONS | REGIONS | GROUPS | FILLS | SLOTS | NONDEFAULTRULES | PINPROPERTIES
             | STYLES | SCANCHAINS => Statement::Skipped,
         BEGINEXT => Statement::Extension,
-        VIAS | COMPONENTS | BLOCKAGES | SPECIALNETS => Statement::Later,
+        VIAS | COMPONENTS | SPECIALNETS => Statement::Later,
         END => Statement::End,
         _ => Statement::Other,
     )

@@ -1,6 +1,7 @@
 //! The reader of DEF.
 #![tactic(auto)]
 
+mod blockages;
 mod def;
 mod error;
 mod kinds;

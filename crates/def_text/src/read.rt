@@ -25,6 +25,7 @@ fn nothing_read(alloc: Global) -> Parsed
         die: None,
         tracks: Seq::new(alloc),
         pins: None,
+        blockages: None,
         nets: None,
         skipped: 0,
     }

@@ -5,8 +5,9 @@ ghost use Rattle.rt_forms.specs.Form.{More, turn, loop};
 ghost use Rattle.rt_forms.specs.Word.{place_of};
 ghost use Rattle.def_text.specs.Faults.{def_faults};
 ghost use Rattle.def_text.specs.Defs.{IsDef};
-ghost use Rattle.def_text.specs.Texts.{IsParsed, units_statement as units_statement_form, die_statement as die_statement_form, tracks_statement as tracks_statement_form, pins_section as pins_section_form, nets_section as nets_section_form, statement as statement_form, or_none as or_none_of, finished as finished_of};
+ghost use Rattle.def_text.specs.Texts.{IsParsed, units_statement as units_statement_form, die_statement as die_statement_form, tracks_statement as tracks_statement_form, pins_section as pins_section_form, blockages_section as blockages_section_form, nets_section as nets_section_form, statement as statement_form, or_none as or_none_of, finished as finished_of};
 
+use crate::blockages::{Blocked, blockages};
 use crate::def::{Def, DefNet, IoPin, TrackRow};
 use crate::error::DefError;
 use crate::kinds::{Statement, statement_of};
@@ -26,6 +27,7 @@ pub struct Parsed {
     pub die: Option<Rect>,
     pub tracks: Seq<TrackRow>,
     pub pins: Option<Seq<IoPin>>,
+    pub blockages: Option<Seq<(Name, Rect)>>,
     pub nets: Option<Seq<DefNet>>,
     pub skipped: u32,
 }
@@ -108,6 +110,33 @@ fn pins_section(
     Ok(())
 }
 
+/// `BLOCKAGES` behind its first word.
+#[tactic(auto, unfolding(crate::specs::Texts::blockages_section))]
+fn blockages_section(
+    alloc: Global,
+    words: &mut Words,
+    word: Word,
+    parsed: &mut Parsed,
+) -> Result<(), DefError>
+    requires sound { IsParsed parsed.old }
+    requires few { parsed.old.skipped + length words.old ≤ 2 ^ 32 }
+    ensures reads { Reads def_faults (λ _. More parsed.new) result words.old words.new (blockages_section_form (place_of word.entry) parsed.old) }
+    ensures sound { OnOk result (IsParsed parsed.new) }
+    ensures few { OnOk result (parsed.new.skipped + length words.new ≤ parsed.old.skipped + length words.old) }
+{
+    once(alloc, &parsed.blockages, word)?;
+    let said = said_count(words)?;
+    let mut blocked = Blocked {
+        metal: Seq::new(alloc),
+        found: 0,
+        skipped: parsed.skipped,
+    };
+    blockages(alloc, words, said, &mut blocked)?;
+    parsed.blockages = Some(blocked.metal);
+    parsed.skipped = blocked.skipped;
+    Ok(())
+}
+
 /// `NETS` behind its first word.
 #[tactic(auto, unfolding(crate::specs::Texts::nets_section))]
 fn nets_section(
@@ -160,6 +189,10 @@ pub fn statement(alloc: Global, words: &mut Words, parsed: &mut Parsed) -> Resul
         }
         Statement::Pins => {
             pins_section(alloc, words, word, parsed)?;
+            Ok(false)
+        }
+        Statement::Blockages => {
+            blockages_section(alloc, words, word, parsed)?;
             Ok(false)
         }
         Statement::Nets => {
@@ -220,7 +253,7 @@ pub fn finished(alloc: Global, parsed: Parsed) -> Result<Def, DefError>
         vias: Seq::new(alloc),
         components: Seq::new(alloc),
         pins: or_none(alloc, parsed.pins),
-        blockages: Seq::new(alloc),
+        blockages: or_none(alloc, parsed.blockages),
         special: Seq::new(alloc),
         nets: or_none(alloc, parsed.nets),
         skipped: parsed.skipped,

@@ -106,6 +106,8 @@ fn what_is_unused_is_skipped(rt: HostRuntime) -> Result<(), Fail> {
         "UNITS DISTANCE MICRONS 1 ; BEGINEXT ; END DESIGN ENDEXT
 DIEAREA ( 3 4 ) ( 1 9 ) ; REGIONS 1 ; - END r ; END REGIONS REGIONS END REGIONS
 TRACKS X -7 DO 1 STEP 1 ; TRACKS Y 7 DO 1 STEP 1 LAYER A B A ;
+BLOCKAGES 3 ; - LAYER A + SPACING 4 + RECT ( 1 1 ) ( 0 0 ) RECT ( 5 5 ) ( 6 6 ) ; - PLACEMENT RECT ;
+- LAYER B + PUSHDOWN x + SLOTS RECT ( 0 0 ) ( 1 1 ) ; END BLOCKAGES
 PINS 1 ; - p + PORT + LAYER A SPACING 5 ( 1 2 ) ( 4 3 ) + PLACED ( 7 7 ) N + PLACED ( 10 20 ) W
 + PORT + LAYER B ( 0 0 ) ( 1 1 ) + + DIRECTION INPUT ; END PINS
 NETS 1 ; - n ( PIN p + SYNTHESIZED ) + NONDEFAULTRULE r + USE SIGNAL ; END NETS END DESIGN",
@@ -114,7 +116,20 @@ NETS 1 ; - n ( PIN p + SYNTHESIZED ) + NONDEFAULTRULE r + USE SIGNAL ; END NETS 
         def.die,
         Rect::hull(Point { x: 1, y: 4 }, Point { x: 3, y: 9 })
     );
-    assert_eq!(rt; def.skipped, 1);
+    assert_eq!(rt; def.skipped, 2);
+    match def.blockages.as_slice() {
+        [first, second] => {
+            assert!(rt;
+                same(&first.0, "A")
+                    && first.1 == Rect::hull(Point { x: 0, y: 0 }, Point { x: 1, y: 1 })
+            );
+            assert!(rt;
+                same(&second.0, "A")
+                    && second.1 == Rect::hull(Point { x: 5, y: 5 }, Point { x: 6, y: 6 })
+            );
+        }
+        _ => assert!(rt; false),
+    }
     match def.pins.as_slice() {
         [p] => assert!(rt; is_metal(&p.rects, "A", Point { x: 7, y: 21 }, Point { x: 8, y: 24 })),
         _ => assert!(rt; false),
@@ -193,6 +208,12 @@ fn damaged_texts_are_refused(rt: HostRuntime) -> Result<(), Fail> {
         ("NETS 1 ;\n- a\n( u1 A ) ;", "line 3: not yet"),
         ("NETS 1 ;\n- a\n+ ROUTED", "line 3: not yet"),
         ("VIAS 1 ;", "line 1: not yet"),
+        (
+            "BLOCKAGES 1 ; - LAYER M1\n;",
+            "line 2: another word is expected",
+        ),
+        ("BLOCKAGES 1 ; - LAYER M1\nPOLYGON", "line 2: not yet"),
+        ("BLOCKAGES 1 ; END", "BLOCKAGES says 1 and has 0"),
         ("END DESIGN", "units is missing"),
         (
             "UNITS DISTANCE MICRONS 1 ; END DESIGN",
