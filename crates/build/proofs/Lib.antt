@@ -1,1 +1,15 @@
+pub mod Ascending
+pub mod Assembling
+pub mod DesignLemmas
+pub mod FaultSteps
+pub mod FirstFaults
+pub mod KnownLemmas
 pub mod Lists
+pub mod MetalLemmas
+pub mod NameSteps
+pub mod OwnerLemmas
+pub mod Steps
+pub mod TechLemmas
+pub mod TileLemmas
+pub mod TrackLemmas
+pub mod Uniqueness

@@ -69,16 +69,16 @@ pub record AreEntriesOf (g : TrackSystem) (k : ℕ) (rects : List Metal) (entrie
   pub ordered : AllPairs IsEntryBefore entries
 
 -- pin k of a net, named by this connection
-pub record IsPinOf (lef : Lef) (def : Def) (g : TrackSystem) (named : ℕ × (List ℕ × List ℕ)) (pin : Pin) : Type 0 where
+pub record IsPinOf (layers : LayerNames) (io : List IoPin) (g : TrackSystem) (named : ℕ × (List ℕ × List ℕ)) (pin : Pin) : Type 0 where
   pub comp : pin.comp ≡ named.1.0
   pub name : pin.pin ≡ named.1.1
-  pub rects : pin.rects ≡ metals_of (layer_names_of lef) (pin_rects def.pins named.1.1)
+  pub rects : pin.rects ≡ metals_of layers (pin_rects io named.1.1)
   pub entries : AreEntriesOf g named.0 pin.rects pin.entries
 
-pub record IsNetOf (lef : Lef) (def : Def) (g : TrackSystem) (said : DefNet) (net : Net) : Type 0 where
+pub record IsNetOf (layers : LayerNames) (io : List IoPin) (g : TrackSystem) (said : DefNet) (net : Net) : Type 0 where
   pub name : net.name ≡ said.name
-  pub pins : AllZip (IsPinOf lef def g) (enumerate_from 0 said.pins) net.pins
-  pub guide : net.guide ≡ whole_guide def.die lef.layers
+  pub pins : AllZip (IsPinOf layers io g) (enumerate_from 0 said.pins) net.pins
+  pub guide : net.guide ≡ whole_guide g.die g.tech.layers
   pub kind : net.kind ≡ kind_of said
   pub close : net.close ≡ said.close
 
@@ -94,7 +94,7 @@ pub record IsDesignOf (lef : Lef) (def : Def) (chosen : Options) (d : Design) : 
   pub tech : IsTechOf lef d.tech
   pub tracks : AreTracksOf lef def d.tracks
   pub grid : d.grid ≡ grid_of def chosen
-  pub nets : AllZip (IsNetOf lef def (system_of d.tech d.tracks def.die)) def.nets d.nets
+  pub nets : AllZip (IsNetOf (layer_names_of lef) def.pins (system_of d.tech d.tracks def.die)) def.nets d.nets
   pub fixed : d.fixed ≡ fixed_of lef def
   pub options : d.options ≡ chosen
   pub skipped : d.skipped ≡ skipped_of lef def

@@ -1,5 +1,5 @@
 -- What keeps a design from being built, one fault after the other: units, names, tracks and counts.
-use Rattle.std.specs.Prelude.{ℕ, ◌+◌, ◌*◌, ◌-◌, ◌%◌, ◌==◌, List, [], ◌∷◌, Bool, not, if◌then◌else◌, nat_lt, length, fold, sum_by, count_by, max, unsigned_abs, Option, Some, None, unwrap_or}
+use Rattle.std.specs.Prelude.{ℕ, ◌+◌, ◌*◌, ◌-◌, ◌%◌, ◌==◌, List, [], ◌∷◌, Bool, not, if◌then◌else◌, nat_lt, length, fold, sum_by, count_by, max, unsigned_abs, bytes_eq, Option, Some, None, unwrap_or}
 use Rattle.std.specs.List.{list_any, enumerate_from}
 use Rattle.std.specs.Option.{option_or}
 use Rattle.rt_base.specs.Sides.{Sides}
@@ -13,7 +13,6 @@ use Rattle.rt_base.specs.declared.tech.Shape.{Shape}
 use Rattle.rt_base.specs.declared.tech.Tech.{Tech}
 use Rattle.rt_base.specs.declared.tech.Via.{Via}
 use Rattle.track_graph.specs.declared.design.Net.{Net}
-use Rattle.track_graph.specs.declared.design.Options.{Options}
 use Rattle.track_graph.specs.declared.design.Pin.{Pin}
 use Rattle.lef_text.specs.declared.lef.Lef.{Lef}
 use Rattle.def_text.specs.declared.def.Def.{Def}
@@ -25,9 +24,9 @@ use Rattle.build.specs.declared.error.BuildError.TheVariants.{Scale, NoComponent
 use Rattle.build.specs.declared.error.Limited.{Limited}
 use Rattle.build.specs.declared.error.Limited.TheVariants.{RoutingLayers, UsableVias, Tracks, Nets, FixedShapes, Coordinate, Entries, Tiles, TileShapes}
 use Rattle.build.specs.declared.layer_names.LayerNames.{LayerNames}
-use Rattle.build.specs.LookUps.{layer_names_of, is_known, has_pin, is_io, owner_of}
+use Rattle.build.specs.LookUps.{layer_names_of, is_known, pin_names, is_io, owner_of}
 use Rattle.build.specs.TrackLines.{is_used, line_count, routing_layers}
-use Rattle.build.specs.Built.{fixed_of, grid_of}
+use Rattle.build.specs.Built.{fixed_of}
 
 -- the first fault of these
 abbrev pub first_of : List (Option BuildError) → Option BuildError
@@ -62,14 +61,14 @@ abbrev pub pin_fault : LayerNames → IoPin → Option BuildError
 pin_fault names pin = rects_fault names pin.rects
 
 -- a connection of net n, where this function says whose a pin is: components aren't known yet; PINS has no such pin; the pin is another net's
-abbrev pub connection_fault : List IoPin → (List ℕ → Owner) → ℕ → List ℕ × List ℕ → Option BuildError
+abbrev pub connection_fault : List (List ℕ) → (List ℕ → Owner) → ℕ → List ℕ × List ℕ → Option BuildError
 connection_fault pins whose n c = first_of (
     fault_if (not (is_io c)) (NoComponent c.0)
-    ∷ fault_if (not (has_pin pins c.1)) (NoPin c.1)
+    ∷ fault_if (not (list_any (bytes_eq c.1) pins)) (NoPin c.1)
     ∷ fault_if (not (same_owner (whose c.1) (OfNet n))) (PinTwice c.1)
     ∷ [])
 
-abbrev pub net_fault : List IoPin → (List ℕ → Owner) → ℕ × DefNet → Option BuildError
+abbrev pub net_fault : List (List ℕ) → (List ℕ → Owner) → ℕ × DefNet → Option BuildError
 net_fault pins whose net = first_by (connection_fault pins whose net.0) net.1.pins
 
 -- a routing layer for which no TRACKS statement is used
@@ -87,7 +86,7 @@ name_fault lef def = first_of (
     ∷ first_by (row_fault (layer_names_of lef)) def.tracks
     ∷ first_by (pin_fault (layer_names_of lef)) def.pins
     ∷ rects_fault (layer_names_of lef) def.blockages
-    ∷ first_by (net_fault def.pins (owner_of def.nets)) (enumerate_from 0 def.nets)
+    ∷ first_by (net_fault (pin_names def.pins) (owner_of def.nets)) (enumerate_from 0 def.nets)
     ∷ first_by (level_fault def.tracks) (routing_layers lef.layers)
     ∷ limit_fault RoutingLayers (length (routing_layers lef.layers)) 16
     ∷ [])
@@ -120,10 +119,13 @@ entry_count nets = sum_by (λ (net : Net). sum_by (λ (pin : Pin). length pin.en
 abbrev pub met_count : Grid → Sides → ℕ
 met_count g s = (column_of g s.xh - column_of g s.xl + 1) * (row_of g s.yh - row_of g s.yl + 1)
 
--- entries, tiles, and pairs of a tile and a shape that meets it
-abbrev pub size_fault : Lef → Def → Options → List Net → Option BuildError
-size_fault lef def options nets = first_of (
-    limit_fault Entries (entry_count nets) 16777216
-    ∷ limit_fault Tiles (columns_of (grid_of def options) * rows_of (grid_of def options)) 1048576
-    ∷ limit_fault TileShapes (sum_by (λ (s : Shape). met_count (grid_of def options) s.rect) (fixed_of lef def)) 16777216
+-- entries, tiles, and pairs of a tile and a shape of the input that meets it
+abbrev pub size_by : Grid → List Shape → ℕ → Option BuildError
+size_by grid fixed count = first_of (
+    limit_fault Entries count 16777216
+    ∷ limit_fault Tiles (columns_of grid * rows_of grid) 1048576
+    ∷ limit_fault TileShapes (sum_by (λ (s : Shape). met_count grid s.rect) fixed) 16777216
     ∷ [])
+
+abbrev pub size_fault : Grid → List Shape → List Net → Option BuildError
+size_fault grid fixed nets = size_by grid fixed (entry_count nets)

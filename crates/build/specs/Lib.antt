@@ -1,5 +1,10 @@
 pub mod Built
 pub mod Faults
+pub mod Ground
+pub mod Indexes
+pub mod Indexing
+pub mod Lines
 pub mod LookUps
 pub mod Refusals
 pub mod TrackLines
+pub mod Usable

@@ -24,9 +24,12 @@ layer_number names name = position (bytes_eq name) names.shaped
 abbrev pub is_known : LayerNames → List ℕ → Bool
 is_known names name = list_any (bytes_eq name) names.shaped || list_any (bytes_eq name) names.dropped
 
+abbrev pub layer_no_of : ℕ → LayerNo
+layer_no_of k = record { 0 = k }
+
 -- a rectangle on a named layer, nothing where the layer holds no shapes
 abbrev pub metal_of : LayerNames → List ℕ × Sides → Option Metal
-metal_of names r = option_map (λ (k : ℕ). (record { 0 = k }, r.1)) (layer_number names r.0)
+metal_of names r = option_map (λ (k : ℕ). (layer_no_of k, r.1)) (layer_number names r.0)
 
 -- rectangles of DEF, without those on layers that hold no shapes
 abbrev pub metals_of : LayerNames → List (List ℕ × Sides) → List Metal
@@ -36,9 +39,8 @@ metals_of names rects = filter_map (metal_of names) rects
 abbrev pub pin_rects : List IoPin → List ℕ → List (List ℕ × Sides)
 pin_rects pins name = unwrap_or (option_map (λ (p : IoPin). p.rects) (find (λ (p : IoPin). bytes_eq name p.name) pins)) []
 
--- PINS has a pin of this name
-abbrev pub has_pin : List IoPin → List ℕ → Bool
-has_pin pins name = list_any (λ (p : IoPin). bytes_eq name p.name) pins
+abbrev pub pin_names : List IoPin → List (List ℕ)
+pin_names pins = map (λ (p : IoPin). p.name) pins
 
 -- a connection is to a pin of the design, and not to one of a component
 abbrev pub is_io : List ℕ × List ℕ → Bool

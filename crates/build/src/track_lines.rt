@@ -31,7 +31,7 @@ fn times_named(name: &[u8], names: &Option<Seq<Name>>) -> usize
 }
 
 /// How often a statement is used for a routing layer.
-fn times_used(layer: &Layer, row: &TrackRow) -> usize
+pub(crate) fn times_used(layer: &Layer, row: &TrackRow) -> usize
     ensures { result ≡ times_used layer.now row.now }
 {
     let runs_along = if row.x {

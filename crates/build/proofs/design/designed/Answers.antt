@@ -1,0 +1,15 @@
+use Rattle.build.specs.Refusals.Refuses.{by_name, by_count}
+use Rattle.build.proofs.Assembling.{out_of_memory, refused}
+use Rattle.build.proofs.design.designed.Goals as goal
+
+pub returns-in_err-check_names-clause-refusal : goal.returns-in_err-check_names-clause-refusal
+returns-in_err-check_names-clause-refusal c = refused c.args.lef.now c.args.def.now c.args.options c.from_residual.result _ c.from_residual.ensures.1 (λ other. by_name (c.in_err-check_names.ensures other))
+
+pub returns-in_err-tech-clause-refusal : goal.returns-in_err-tech-clause-refusal
+returns-in_err-tech-clause-refusal c = out_of_memory c.args.lef.now c.args.def.now c.args.options c.from_residual-in_err-tech.result c.from_residual-in_err-tech.ensures.1
+
+pub returns-in_err-shapes-clause-refusal : goal.returns-in_err-shapes-clause-refusal
+returns-in_err-shapes-clause-refusal c = out_of_memory c.args.lef.now c.args.def.now c.args.options c.from_residual-in_err-shapes.result c.from_residual-in_err-shapes.ensures.1
+
+pub returns-in_err-check_counts-clause-refusal : goal.returns-in_err-check_counts-clause-refusal
+returns-in_err-check_counts-clause-refusal c = refused c.args.lef.now c.args.def.now c.args.options c.from_residual-in_err-check_counts.result _ c.from_residual-in_err-check_counts.ensures.1 (λ other. by_count c.in_ok-check_names.ensures c.in_ok-tech.tech c.in_ok-tech.ensures (c.in_err-check_counts.ensures other))
