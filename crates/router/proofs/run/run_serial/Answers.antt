@@ -1,0 +1,20 @@
+use Rattle.std.proofs.Common.{◌≡◌, IfOk, IfErr}
+use Rattle.router.specs.Outputs.{shelf_at, sink_at}
+use Rattle.router.specs.Runs.{moment_at, RefusesWords, Runs}
+use Rattle.router.proofs.RunLemmas.{words_refused}
+use Rattle.router.proofs.run.run_serial.Goals as goal
+
+pub returns-in-Ok-clause-runs : goal.returns-in-Ok-clause-runs
+returns-in-Ok-clause-runs g c = rw c.in-Ok.ensures c.run_route.ensures.runs
+
+pub returns-in-Ok-clause-words : goal.returns-in-Ok-clause-words
+returns-in-Ok-clause-words g c = rw c.in-Ok.ensures tt
+
+pub returns-in-Err-clause-runs : goal.returns-in-Err-clause-runs
+returns-in-Err-clause-runs g c = rw c.in-Err.ensures tt
+
+pub returns-in-Err-clause-words : goal.returns-in-Err-clause-words
+returns-in-Err-clause-words g c = rw c.in-Err.ensures (words_refused _ (shelf_at g.F.Shelf.told g.F.Shelf.faults c.args.files.now) (sink_at g.K.Sink.text g.K.Sink.faults c.args.out.now) (sink_at g.K.Sink.text g.K.Sink.faults c.refused.new.out) _ c.refused.ensures.ends)
+
+pub returns-in-Ok-clause-sure_files : goal.returns-in-Ok-clause-sure_files
+returns-in-Ok-clause-sure_files g c = rw c.in-Ok.ensures c.run_route.ensures.sure_files

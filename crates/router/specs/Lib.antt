@@ -1,0 +1,9 @@
+pub mod ErrorLines
+pub mod Made
+pub mod Outcomes
+pub mod Outputs
+pub mod Refusals
+pub mod Runs
+pub mod Sources
+pub mod Steps
+pub mod Words
