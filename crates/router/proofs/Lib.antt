@@ -1,3 +1,4 @@
+pub mod OutcomeLemmas
 pub mod ReadLemmas
 pub mod RunLemmas
 pub mod WordLemmas

@@ -5,7 +5,7 @@ ghost use Rattle.router.specs.declared.refusal.Refusal.TheVariants.{Memory as Ou
 ghost use Rattle.router.specs.Words.{word_texts, command_of, names_in};
 ghost use Rattle.router.specs.Outcomes.{AreHeld};
 ghost use Rattle.router.specs.Outputs.{shelf_at, sink_at, with_outputs};
-ghost use Rattle.router.specs.Runs.{moment_at, RefusesWords, Runs, SaysMemory};
+ghost use Rattle.router.specs.Runs.{moment_at, AnswersExactly, RefusesWords, Runs, SaysMemory};
 ghost use Rattle.router.specs.Steps.{Ends, EndsRefused, EndsSaid, IsUnput, IsUnputFile, SaysRefusal};
 
 use crate::lines::error_line;
@@ -238,6 +238,8 @@ pub fn run_serial<F: Shelf, K: Sink>(
 ) -> Done
     ensures runs { IfOk (command_of (word_texts words.now)) (λ names. Runs names (moment_at F.told F.faults K.text K.faults files.old out.old) (moment_at F.told F.faults K.text K.faults files.new out.new) result) }
     ensures words { IfErr (command_of (word_texts words.now)) (λ fault. RefusesWords fault (moment_at F.told F.faults K.text K.faults files.old out.old) (moment_at F.told F.faults K.text K.faults files.new out.new) result) }
+    ensures exact { IfOk (command_of (word_texts words.now)) (λ names. AnswersExactly names (moment_at F.told F.faults K.text K.faults files.old out.old) (moment_at F.told F.faults K.text K.faults files.new out.new) result) }
+    ensures untouched { IfErr (command_of (word_texts words.now)) (λ _. files.new ≡ files.old) }
     ensures sure_files { F.sure files.old → IfOk (command_of (word_texts words.now)) (AreHeld (F.told files.old)) → F.faults files.new ≡ F.faults files.old }
     ensures sure_out { K.sure out.old → K.faults out.new ≡ K.faults out.old }
 {
