@@ -4,6 +4,8 @@
 mod ascending;
 mod cut_array;
 mod polygon;
+#[cfg(test)]
+mod tests;
 
 pub use cut_array::{Generated, generated_rects};
 pub use polygon::{is_rectilinear, slabs};
