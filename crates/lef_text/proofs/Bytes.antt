@@ -1,8 +1,8 @@
 -- From the words of a text to its bytes.
-use Rattle.std.proofs.Common.{◌≡◌, ◌≢◌, List, ℕ, Result, Ok, Err, refl, sym, ap, subst, ◌⊎◌, inl, inr, ◌∙◌}
+use Rattle.std.proofs.Common.{◌≡◌, List, ℕ, Result, Ok, Err, refl, sym, ap, subst, inl, inr, ◌∙◌}
 use Rattle.rt_base.specs.declared.token.Token.{Token}
 use Rattle.rt_base.specs.declared.scan.ScanError.{ScanError}
-use Rattle.rt_base.specs.Scan.{IsCutInto, Reads as ScansAs, answer_of}
+use Rattle.rt_base.specs.Scan.{Reads as ScansAs, answer_of}
 use Rattle.rt_base.specs.declared.scan.ScanError.TheVariants as scans
 use Rattle.std.specs.Prelude.{IfSome}
 use Rattle.rt_forms.specs.Clauses.{ReadsText, IsText, IsRefused, Gives}

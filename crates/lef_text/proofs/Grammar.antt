@@ -4,12 +4,11 @@ use Rattle.std.proofs.lemmas.Result.{err_from_is_err_and}
 use Rattle.rt_forms.specs.Clauses.{Looks}
 use Rattle.lef_text.specs.declared.lef.Lef.{Lef}
 use Rattle.lef_text.specs.declared.error.LefError.TheVariants.{Memory}
-use Rattle.std.proofs.Common.{◌≡◌, ◌≢◌, ◌≤◌, length, sym, subst, ◌∙◌, ap, ℕ, Bool, List, ℤ, Result, Ok, Err, Option, Some, None, codes, [], true, false}
-use Rattle.rt_forms.specs.Lexeme.{Place, Lexeme, put, is_end}
+use Rattle.std.proofs.Common.{◌≡◌, ◌≢◌, ◌≤◌, length, sym, subst, ◌∙◌, ap, ℕ, Bool, List, ℤ, Result, Ok, Err, Option, Some, None, [], true, false}
+use Rattle.rt_forms.specs.Lexeme.{Place, Lexeme, put}
 use Rattle.lef_text.specs.Faults.{lef_faults}
-use Rattle.rt_forms.specs.Form.{Read, and_then, Form, one, admit, check, done, ◌>>=◌, choose, loop, text, Turn}
-use Rattle.rt_forms.specs.Reading.{a_name, semicolon, rest, the_word}
-use Rattle.rt_forms.proofs.Laws.{Lawful, Consumes, lawful, consuming, lawful_bind, lawful_next, lawful_loop, lawful_text}
+use Rattle.rt_forms.specs.Form.{Read, and_then, loop, text}
+use Rattle.rt_forms.proofs.Laws.{Lawful, lawful, consuming, lawful_bind, lawful_next, lawful_loop, lawful_text}
 use Rattle.rt_forms.proofs.Whole.{IsWhole, text_is}
 use Rattle.rt_forms.proofs.Skips.{lawful_up_to, lawful_up_to_pair}
 use Rattle.lef_text.specs.declared.error.LefError.{LefError}
@@ -24,7 +23,6 @@ use Rattle.lef_text.specs.declared.via_words.ViaLine.{ViaLine}
 use Rattle.lef_text.specs.declared.via_words.ViaLine.TheVariants as via_lines
 use Rattle.lef_text.specs.declared.statement_words.Statement.{Statement}
 use Rattle.lef_text.specs.declared.statement_words.Statement.TheVariants as statements
-use Rattle.lef_text.specs.Words.{layer_line_of, via_line_of, statement_of}
 use Rattle.lef_text.specs.Numbers.{length_line, rectangle}
 use Rattle.lef_text.specs.Tables as tables
 use Rattle.lef_text.specs.declared.library.Lengths.{Lengths}

@@ -1,43 +1,22 @@
 -- What holds of numbers and rectangles.
-use Rattle.std.proofs.Common.{◌≡◌, ◌≢◌, ℕ, ◌+◌, ◌≤◌, ◌<◌, ◌^◌, ◌||◌, Bool, true, false, not, List, [], ◌∷◌, ◌++◌, length, map, Result, Ok, Err, Option, Some, None, ℤ, pos, ◌≤ℤ◌, refl, sym, ◌∙◌, ap, subst, arith, bytes_eq, codes, if◌then◌else◌, slice_get, position, slice_index_or, ◌⊎◌, inl, inr}
-use Rattle.std.specs.Prelude.{All, AllPairs, IfSome}
+use Rattle.std.proofs.Common.{◌≡◌, ℕ, ◌^◌, Bool, List, Ok, Option, Some, None, ℤ, sym, ◌∙◌, subst, arith, slice_get, slice_index_or, inl, inr}
+use Rattle.std.specs.Prelude.{All}
 use Rattle.std.specs.Int.{int_max, int_min}
-use Rattle.std.specs.List.{list_any}
 use Rattle.std.proofs.lemmas.Int.{ints, int_max_is, int_min_is}
 use Rattle.std.proofs.lemmas.Option.{slice_get_cases}
-use Rattle.std.proofs.lemmas.List.{map-append}
-use Rattle.std.proofs.lemmas.List.Elements.{All-push, All-nil, All-get_or}
-use Rattle.rt_base.specs.declared.tech.Layer.{Layer}
-use Rattle.rt_base.specs.declared.tech.Via.{Via}
+use Rattle.std.proofs.lemmas.List.Elements.{All-get_or}
 use Rattle.rt_base.specs.declared.tech.LayerNo.{LayerNo}
-use Rattle.rt_base.specs.declared.geometry.Point.{Point}
-use Rattle.rt_base.specs.Sides.{Sides}
 use Rattle.rt_base.specs.Geometry.{hull_of}
 use Rattle.rt_base.specs.Ranges.{IsWithin, AreSidesWithin}
 use Rattle.rt_forms.specs.Lexeme.{Place}
-use Rattle.rt_forms.specs.Form.{Form, next, one, check, done, ◌>>=◌, choose, loop, text, Turn, More, Done}
-use Rattle.rt_forms.specs.Reading.{is_name_word, at_line, semicolon, rest, the_word, up_to_word, up_to_pair}
-use Rattle.rt_words.specs.Reading.{decimal_of}
-use Rattle.rt_words.specs.declared.number.NumberFault.{NumberFault}
-use Rattle.lef_text.specs.declared.error.LefError.{LefError}
+use Rattle.rt_forms.specs.Form.{one}
+use Rattle.rt_forms.specs.Reading.{semicolon}
 use Rattle.lef_text.specs.declared.error.LefError.TheVariants.{Number}
-use Rattle.lef_text.specs.declared.lef.Lef.{Lef}
-use Rattle.lef_text.specs.declared.lef.Macro.{Macro}
-use Rattle.lef_text.specs.declared.library.Library.{Library}
-use Rattle.lef_text.specs.declared.library.ViaLines.{ViaLines}
-use Rattle.lef_text.specs.declared.via_words.ViaLine.{ViaLine}
-use Rattle.lef_text.specs.declared.via_words.ViaLine.TheVariants as lines
-use Rattle.lef_text.specs.declared.statement_words.Statement.{Statement}
-use Rattle.lef_text.specs.declared.statement_words.Statement.TheVariants as statements
-use Rattle.lef_text.specs.IsLef.{IsLef, IsVia, IsOn, AreDistinct, is_path_word}
-use Rattle.lef_text.specs.Words.{via_line_of, statement_of}
 use Rattle.lef_text.specs.Numbers.{number, first_number, is_refused_shape, corner, rectangle}
-use Rattle.lef_text.specs.Layers as layers
 use Rattle.lef_text.specs.Vias as vias
-use Rattle.lef_text.specs.Lef as lefs
-use Rattle.lef_text.proofs.Yields.{Yields, yields_bind, yields_then, yields_check, yields_done, yields_refused, yields_one, yields_choose, OfTurn, yields_loop, yields_text}
-use Rattle.lef_text.proofs.Small.{decimal_small, passed, passed_so, ok_is}
-use Rattle.lef_text.proofs.Sound.{IsSound, IsNumber, SoundTurn, yields_layer, on_line, distinct_push, none_equal, not_false, last_of}
+use Rattle.lef_text.proofs.Yields.{Yields, yields_bind, yields_then, yields_done, yields_refused, yields_one}
+use Rattle.lef_text.proofs.Small.{decimal_small, passed}
+use Rattle.lef_text.proofs.Sound.{on_line}
 
 -- ---- rectangles
 

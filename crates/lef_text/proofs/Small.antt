@@ -1,6 +1,5 @@
 -- Numbers that are read are small.
-use Rattle.std.proofs.Common.{◌≡◌, ℕ, ◌*◌, ◌^◌, ◌/◌, ◌%◌, ◌≤◌, ◌<◌, ◌==◌, Bool, true, false, not, List, length, ◌++◌, position, Result, Ok, Err, ℤ, pos, ◌≤ℤ◌, int_lt, refl, subst, zero, suc, sym, ◌∙◌, ap, arith, nat_lt, if◌then◌else◌}
-use Rattle.std.specs.Prelude.{unsigned_abs}
+use Rattle.std.proofs.Common.{◌≡◌, ℕ, ◌*◌, ◌^◌, ◌/◌, ◌%◌, ◌≤◌, ◌==◌, Bool, true, false, not, List, length, ◌++◌, position, Result, Ok, Err, ℤ, refl, subst, zero, suc, arith, nat_lt, if◌then◌else◌}
 use Rattle.std.specs.Str.Parse.{digits_value}
 use Rattle.std.proofs.Math.Nat.{div-le_of_le-mul}
 use Rattle.std.proofs.lemmas.Bool.Decides.{nat_tests}
@@ -8,7 +7,7 @@ use Rattle.rt_base.specs.Ranges.{IsWithin}
 use Rattle.rt_words.specs.Number.{quotient, with_sign, signed, amount}
 use Rattle.rt_words.specs.Reading.{decimal_of, parts_of, are_digits, whole_part, fraction_part, without_sign, is_point, begins_with_minus}
 use Rattle.rt_words.specs.declared.number.NumberFault.{NumberFault}
-use Rattle.rt_words.specs.declared.number.NumberFault.TheVariants.{TooManyDecimals, TooLarge, NotWhole, NotNumber, OutOfRange}
+use Rattle.rt_words.specs.declared.number.NumberFault.TheVariants.{TooManyDecimals, TooLarge, NotWhole, NotNumber}
 
 -- a test that is passed
 pub passed : {N A : Type 0} (b : Bool) (e : N) (r : Result A N) (x : A) → (if b then Err e else r) ≡ Ok x → (b ≡ false) × (r ≡ Ok x)

@@ -1,6 +1,6 @@
 -- What holds of what is read so far.
-use Rattle.std.proofs.Common.{eqb-true, ◌≡◌, ◌≢◌, ◌||◌, zero, suc, ℕ, ◌+◌, ◌≤◌, ◌<◌, ◌^◌, ◌%◌, ◌==◌, Bool, true, false, not, List, [], ◌∷◌, ◌++◌, length, map, filter, Result, Ok, Err, Option, Some, None, ℤ, pos, negsuc, ◌≤ℤ◌, int_lt, refl, sym, ◌∙◌, ap, subst, arith, nat_lt, bytes_eq, codes, if◌then◌else◌, cond}
-use Rattle.std.specs.Prelude.{All, AllPairs, Contains, IfSome, unsigned_abs, unwrap_or}
+use Rattle.std.proofs.Common.{eqb-true, ◌≡◌, ◌≢◌, ◌||◌, zero, suc, ℕ, ◌+◌, ◌≤◌, ◌<◌, ◌^◌, ◌==◌, Bool, true, false, not, List, [], ◌∷◌, ◌++◌, length, map, Result, Ok, Err, Option, Some, None, ℤ, pos, negsuc, ◌≤ℤ◌, int_lt, refl, sym, ◌∙◌, ap, subst, arith, bytes_eq, codes}
+use Rattle.std.specs.Prelude.{All, Contains, IfSome, unwrap_or}
 use Rattle.std.specs.Int.{int_max}
 use Rattle.std.specs.List.{list_any}
 use Rattle.std.proofs.lemmas.Int.{ints, int_max_is}
@@ -13,18 +13,17 @@ use Rattle.rt_base.specs.declared.tech.Layer.{Layer}
 use Rattle.rt_base.specs.declared.tech.Via.{Via}
 use Rattle.rt_base.specs.declared.tech.LayerNo.{LayerNo}
 use Rattle.rt_base.specs.Sides.{Sides}
-use Rattle.rt_base.specs.Ranges.{IsWithin, IsWidth, AreSidesWithin}
+use Rattle.rt_base.specs.Ranges.{IsWithin, IsWidth}
 use Rattle.rt_forms.specs.Lexeme.{Place}
-use Rattle.rt_forms.specs.Form.{Form, next, one, check, done, ◌>>=◌, choose, loop, Turn, More, Done}
+use Rattle.rt_forms.specs.Form.{next, one, check, done, loop, Turn, More, Done}
 use Rattle.rt_forms.specs.Reading.{is_name_word, at_line, semicolon, rest, the_word}
 use Rattle.rt_words.specs.Reading.{decimal_of}
 use Rattle.rt_words.specs.declared.number.NumberFault.{NumberFault}
 use Rattle.lef_text.specs.declared.error.LefError.{LefError}
 use Rattle.lef_text.specs.declared.error.LefError.TheVariants.{Number}
-use Rattle.lef_text.specs.declared.error.What.{What}
 use Rattle.lef_text.specs.declared.library.Library.{Library}
 use Rattle.lef_text.specs.declared.library.LayerLines.{LayerLines}
-use Rattle.lef_text.specs.IsLef.{IsLayer, IsVia, IsMacro, IsOn, IsSpacing, IsPin, IfRouting, Alternate, directions, AreDistinct}
+use Rattle.lef_text.specs.IsLef.{IsLayer, IsVia, IsOn, IsSpacing, IsPin, IfRouting, Alternate, directions, AreDistinct}
 use Rattle.lef_text.specs.Layers as layers
 use Rattle.lef_text.specs.Tables as tables
 use Rattle.lef_text.specs.declared.library.Rows.{Rows}
@@ -39,7 +38,7 @@ use Rattle.lef_text.specs.declared.layer_words.LayerLine.{LayerLine}
 use Rattle.lef_text.specs.declared.layer_words.LayerLine.TheVariants as lines
 use Rattle.lef_text.specs.Words.{layer_line_of}
 use Rattle.lef_text.specs.Numbers.{length_at_least, from_least, length_line}
-use Rattle.lef_text.proofs.Yields.{Yields, yields_bind, yields_then, yields_check, yields_done, yields_refused, yields_one, yields_choose, OfTurn, yields_loop, yields_text}
+use Rattle.lef_text.proofs.Yields.{Yields, yields_bind, yields_then, yields_check, yields_done, yields_refused, yields_one, yields_choose, OfTurn, yields_loop}
 use Rattle.lef_text.proofs.Small.{decimal_small, passed, passed_so, ok_is}
 
 -- ---- names

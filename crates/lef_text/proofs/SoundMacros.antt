@@ -1,5 +1,5 @@
 -- What holds of macros.
-use Rattle.std.proofs.Common.{◌≡◌, ◌≢◌, ℕ, ◌+◌, ◌≤◌, ◌<◌, ◌^◌, ◌||◌, Bool, true, false, not, List, [], ◌∷◌, ◌++◌, length, map, Result, Ok, Err, Option, Some, None, ℤ, pos, refl, sym, ◌∙◌, ap, subst, arith, bytes_eq, codes, if◌then◌else◌, slice_get, position}
+use Rattle.std.proofs.Common.{◌≡◌, ◌≢◌, ℕ, ◌^◌, ◌||◌, true, List, [], ◌∷◌, ◌++◌, length, Ok, Option, Some, None, refl, sym, ◌∙◌, ap, subst, arith, bytes_eq, codes, slice_get}
 use Rattle.std.specs.Prelude.{All, IfSome}
 use Rattle.std.proofs.lemmas.Int.{ints}
 use Rattle.std.proofs.lemmas.List.{map-append}
@@ -10,17 +10,16 @@ use Rattle.rt_base.specs.Sides.{Sides}
 use Rattle.rt_base.specs.Geometry.{moved}
 use Rattle.rt_base.specs.Ranges.{IsWithin, IsPointWithin, AreSidesWithin}
 use Rattle.rt_forms.specs.Lexeme.{Place}
-use Rattle.rt_forms.specs.Form.{Form, next, one, check, done, ◌>>=◌, choose, loop, Turn, More, Done}
+use Rattle.rt_forms.specs.Form.{next, one, loop, Turn, More, Done}
 use Rattle.rt_forms.specs.Reading.{is_name_word, semicolon, rest, the_word, up_to_word, up_to_pair}
 use Rattle.lef_text.specs.declared.error.LefError.{LefError}
 use Rattle.lef_text.specs.declared.lef.Macro.{Macro}
 use Rattle.lef_text.specs.declared.library.Library.{Library}
-use Rattle.lef_text.specs.declared.library.MacroLines.{MacroLines}
 use Rattle.lef_text.specs.declared.shape_words.ShapeLine.{ShapeLine}
 use Rattle.lef_text.specs.declared.shape_words.ShapeLine.TheVariants as shape_lines
 use Rattle.lef_text.specs.declared.macro_words.MacroLine.{MacroLine}
 use Rattle.lef_text.specs.declared.macro_words.MacroLine.TheVariants as macro_lines
-use Rattle.lef_text.specs.IsLef.{IsPin, IsOn, AreDistinct}
+use Rattle.lef_text.specs.IsLef.{IsPin, IsOn}
 use Rattle.lef_text.specs.Words.{shape_line_of, macro_line_of}
 use Rattle.lef_text.specs.Numbers.{number, rectangle}
 use Rattle.lef_text.specs.Layers.{new_name}
@@ -29,7 +28,7 @@ use Rattle.lef_text.specs.Shapes as shapes
 use Rattle.lef_text.specs.Shapes.{Shapes, shapes_of, Drawn, drawn}
 use Rattle.lef_text.specs.Macros as macros
 use Rattle.lef_text.specs.Macros.{Cell, cell_of}
-use Rattle.lef_text.proofs.Yields.{Yields, yields_bind, yields_then, yields_check, yields_done, yields_refused, yields_one, yields_choose, OfTurn, yields_loop}
+use Rattle.lef_text.proofs.Yields.{Yields, yields_bind, yields_then, yields_done, yields_refused, yields_one, yields_choose, OfTurn, yields_loop}
 use Rattle.lef_text.proofs.Small.{passed_so, ok_is}
 use Rattle.lef_text.proofs.Sound.{IsSound, IsMacroRead, IsNumber, SoundTurn, new_name_is, distinct_push}
 use Rattle.lef_text.proofs.Rectangles.{yields_number, yields_rectangle, yields_polygon, slice_get_all}

@@ -1,27 +1,18 @@
 -- What holds of vias, and of the whole text.
-use Rattle.std.proofs.Common.{◌≡◌, ◌≢◌, ℕ, ◌+◌, ◌≤◌, ◌<◌, ◌^◌, ◌||◌, ◌&&◌, nat_lt, Bool, true, false, not, List, [], ◌∷◌, ◌++◌, length, map, Result, Ok, Err, Option, Some, None, ℤ, pos, ◌≤ℤ◌, refl, sym, ◌∙◌, ap, subst, arith, bytes_eq, codes, if◌then◌else◌, slice_get, position, slice_index_or, ◌⊎◌, inl, inr}
-use Rattle.std.specs.Prelude.{All, AllPairs, IfSome}
-use Rattle.std.specs.Int.{int_max, int_min}
+use Rattle.std.proofs.Common.{◌≡◌, ◌≢◌, ℕ, ◌+◌, ◌<◌, ◌^◌, ◌&&◌, nat_lt, Bool, true, false, not, List, [], ◌∷◌, ◌++◌, length, Ok, Option, Some, None, refl, sym, ◌∙◌, ap, subst, arith, bytes_eq, codes, position}
+use Rattle.std.specs.Prelude.{All, IfSome}
 use Rattle.std.specs.List.{list_any, list_all}
 use Rattle.std.proofs.lemmas.Bool.Decides.{nat_tests}
-use Rattle.std.proofs.lemmas.Int.{ints, int_max_is, int_min_is}
-use Rattle.std.proofs.lemmas.Option.{slice_get_cases}
 use Rattle.std.proofs.lemmas.List.{map-append}
-use Rattle.std.proofs.lemmas.List.Elements.{All-push, All-nil, All-get_or}
-use Rattle.rt_base.specs.declared.tech.Layer.{Layer}
+use Rattle.std.proofs.lemmas.List.Elements.{All-push, All-nil}
 use Rattle.rt_base.specs.declared.tech.Via.{Via}
 use Rattle.rt_base.specs.declared.tech.LayerNo.{LayerNo}
-use Rattle.rt_base.specs.declared.geometry.Point.{Point}
 use Rattle.rt_base.specs.Sides.{Sides}
-use Rattle.rt_base.specs.Geometry.{hull_of}
-use Rattle.rt_base.specs.Ranges.{IsWithin, AreSidesWithin}
+use Rattle.rt_base.specs.Ranges.{AreSidesWithin}
 use Rattle.rt_forms.specs.Lexeme.{Place}
-use Rattle.rt_forms.specs.Form.{Form, next, one, check, done, ◌>>=◌, choose, loop, text, Turn, More, Done}
-use Rattle.rt_forms.specs.Reading.{is_name_word, at_line, semicolon, rest, the_word, up_to_word, up_to_pair}
-use Rattle.rt_words.specs.Reading.{decimal_of}
-use Rattle.rt_words.specs.declared.number.NumberFault.{NumberFault}
+use Rattle.rt_forms.specs.Form.{next, one, loop, text, Turn, More, Done}
+use Rattle.rt_forms.specs.Reading.{is_name_word, semicolon, rest, the_word, up_to_word, up_to_pair}
 use Rattle.lef_text.specs.declared.error.LefError.{LefError}
-use Rattle.lef_text.specs.declared.error.LefError.TheVariants.{Number}
 use Rattle.lef_text.specs.declared.lef.Lef.{Lef}
 use Rattle.lef_text.specs.declared.lef.Macro.{Macro}
 use Rattle.lef_text.specs.declared.library.Library.{Library}
@@ -33,15 +24,14 @@ use Rattle.lef_text.specs.declared.statement_words.Statement.TheVariants as stat
 use Rattle.std.proofs.lemmas.List.Elements.{All-head, All-tail, All-cons}
 use Rattle.lef_text.specs.IsLef.{has_few_pins, IsLef, IsMacro, IsVia, IsOn, AreDistinct, is_path_word}
 use Rattle.lef_text.specs.Words.{via_line_of, statement_of}
-use Rattle.lef_text.specs.Numbers.{number, first_number, is_refused_shape, corner, rectangle}
-use Rattle.lef_text.specs.Layers as layers
+use Rattle.lef_text.specs.Numbers.{rectangle}
 use Rattle.lef_text.specs.Vias as vias
 use Rattle.lef_text.specs.Lef as lefs
-use Rattle.lef_text.proofs.Yields.{Yields, yields_bind, yields_then, yields_check, yields_done, yields_refused, yields_one, yields_choose, OfTurn, yields_loop, yields_text}
-use Rattle.lef_text.proofs.Small.{decimal_small, passed, passed_so, ok_is}
-use Rattle.lef_text.proofs.Rectangles.{yields_number, yields_rectangle, yields_polygon, slice_get_all}
+use Rattle.lef_text.proofs.Yields.{Yields, yields_bind, yields_then, yields_done, yields_refused, yields_one, OfTurn, yields_loop, yields_text}
+use Rattle.lef_text.proofs.Small.{passed, passed_so, ok_is}
+use Rattle.lef_text.proofs.Rectangles.{yields_rectangle, yields_polygon, slice_get_all}
 use Rattle.lef_text.proofs.SoundMacros.{yields_macro}
-use Rattle.lef_text.proofs.Sound.{IsMacroRead, IsSound, IsNumber, SoundTurn, yields_layer, on_line, distinct_push, none_equal, not_false, last_of}
+use Rattle.lef_text.proofs.Sound.{IsMacroRead, IsSound, IsNumber, SoundTurn, yields_layer, distinct_push, none_equal, not_false, last_of}
 
 -- ---- layers by name
 

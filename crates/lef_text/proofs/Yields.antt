@@ -1,7 +1,7 @@
 -- What holds of each value that a form takes.
-use Rattle.std.proofs.Common.{◌≡◌, subst, ℕ, Bool, true, false, zero, suc, List, [], ◌∷◌, ◌++◌, Result, Ok, Err, Option, Some, None}
+use Rattle.std.proofs.Common.{◌≡◌, subst, ℕ, Bool, true, false, zero, suc, List, Result, Ok, Err}
 use Rattle.rt_forms.specs.Lexeme.{Lexeme, Place}
-use Rattle.rt_forms.specs.Form.{Form, next, one, admit, check, done, look, nothing, ◌>>=◌, choose, loop, unless, no_word, whole, text, Turn, Turns, More, Done}
+use Rattle.rt_forms.specs.Form.{Form, one, check, done, look, nothing, ◌>>=◌, choose, loop, unless, no_word, text, Turn, Turns, More, Done}
 
 pub record Yields {E A : Type 0} (F : Form E A) (P : A → Type 0) : Type 0 where
   pub all : (words : List Place) (rest : List Lexeme) (a : A) → F.takes words rest a → P a

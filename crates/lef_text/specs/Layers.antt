@@ -1,15 +1,14 @@
 -- LAYER of LEF (LEF/DEF 5.8 Language Reference, LEF LAYER (Cut) and LAYER (Routing)).
-use Rattle.std.specs.Prelude.{ℕ, ◌+◌, ◌%◌, ◌==◌, List, [], ◌∷◌, ◌++◌, length, map, position, Result, Ok, Err, Option, Some, None, ℤ, pos, unsigned_abs, unwrap_or, bytes_eq, codes, slice_get, if◌then◌else◌, Bool, true, false, not, ◌&&◌}
+use Rattle.std.specs.Prelude.{ℕ, ◌%◌, ◌==◌, List, [], ◌∷◌, ◌++◌, length, Result, Ok, Err, Option, Some, None, ℤ, pos, unsigned_abs, unwrap_or, bytes_eq, codes, if◌then◌else◌, Bool, true, false, not}
 use Rattle.std.specs.Int.{int_max}
 use Rattle.std.specs.List.{list_any}
-use Rattle.rt_base.specs.declared.tech.LayerNo.{LayerNo}
 use Rattle.rt_base.specs.declared.tech.Layer.{Layer}
 use Rattle.rt_base.specs.declared.tech.SpacingTable.{SpacingTable}
 use Rattle.rt_forms.specs.Lexeme.{Place}
 use Rattle.rt_forms.specs.Form.{Form, next, one, admit, check, done, ◌>>=◌, choose, loop, Turn, More, Done}
-use Rattle.rt_forms.specs.Reading.{the_word, semicolon, rest, up_to_word, is_name_word, if_so}
+use Rattle.rt_forms.specs.Reading.{the_word, semicolon, rest, is_name_word, if_so}
 use Rattle.lef_text.specs.declared.error.LefError.{LefError}
-use Rattle.lef_text.specs.declared.error.LefError.TheVariants.{Expected, Unknown, Twice, Refused, LayerWithout, OddWidth, SameDirection, NotYet}
+use Rattle.lef_text.specs.declared.error.LefError.TheVariants.{Expected, Unknown, Twice, Refused, LayerWithout, OddWidth, SameDirection}
 use Rattle.lef_text.specs.declared.error.What.{What}
 use Rattle.lef_text.specs.declared.error.What.TheVariants.{Direction, Width, Spacing}
 use Rattle.lef_text.specs.declared.library.Library.{Library}

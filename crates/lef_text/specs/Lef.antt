@@ -1,15 +1,15 @@
 -- The whole text (LEF/DEF 5.8 Language Reference, LEF Syntax).
-use Rattle.std.specs.Prelude.{◌≡◌, ◌≢◌, ℕ, ◌+◌, List, [], ◌∷◌, ◌++◌, Result, Ok, Err, IfOk, IfErr, Option, Some, None, bytes_eq, codes, ◌⊎◌}
+use Rattle.std.specs.Prelude.{◌≡◌, ◌≢◌, ℕ, ◌+◌, List, [], ◌∷◌, ◌++◌, Result, Ok, Err, IfOk, IfErr, None, bytes_eq, codes, ◌⊎◌}
 use Rattle.rt_base.specs.declared.token.Token.{Token}
 use Rattle.rt_base.specs.declared.scan.ScanError.{ScanError}
 use Rattle.rt_base.specs.declared.scan.ScanError.TheVariants as scans
 use Rattle.rt_base.specs.Scan.{IsCutInto, Reads as ScansAs}
 use Rattle.rt_forms.specs.Lexeme.{Place}
-use Rattle.rt_forms.specs.Form.{Form, next, one, check, done, ◌>>=◌, choose, loop, Turn, More, Done, text}
+use Rattle.rt_forms.specs.Form.{Form, next, check, done, ◌>>=◌, choose, loop, Turn, More, Done, text}
 use Rattle.rt_forms.specs.Reading.{the_word, a_name, semicolon, rest, up_to_word, up_to_pair, is_name_word}
 use Rattle.rt_forms.specs.Clauses.{Gives, IsText, IsRefused}
 use Rattle.lef_text.specs.declared.error.LefError.{LefError}
-use Rattle.lef_text.specs.declared.error.LefError.TheVariants.{Unknown, NotYet, Scan, Memory}
+use Rattle.lef_text.specs.declared.error.LefError.TheVariants.{Unknown, Scan, Memory}
 use Rattle.lef_text.specs.declared.lef.Lef.{Lef}
 use Rattle.lef_text.specs.declared.library.Library.{Library}
 use Rattle.lef_text.specs.declared.statement_words.Statement.{Statement}

@@ -1,5 +1,5 @@
 -- Numbers and points of LEF (LEF/DEF 5.8 Language Reference, LEF UNITS: lengths are microns).
-use Rattle.std.specs.Prelude.{ℕ, List, Result, Ok, Err, ℤ, pos, negsuc, int_lt, nat_le, ◌&&◌, ◌||◌, bytes_eq, codes, if◌then◌else◌, Bool, true, false}
+use Rattle.std.specs.Prelude.{ℕ, List, Result, Ok, Err, ℤ, pos, negsuc, int_lt, nat_le, ◌&&◌, ◌||◌, bytes_eq, codes, if◌then◌else◌, Bool}
 use Rattle.rt_base.specs.Sides.{Sides}
 use Rattle.rt_base.specs.Geometry.{hull_of}
 use Rattle.rt_base.specs.declared.geometry.Point.{Point}

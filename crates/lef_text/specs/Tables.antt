@@ -2,7 +2,6 @@
 -- PARALLELRUNLENGTH, ACCURRENTDENSITY, DCCURRENTDENSITY).
 use Rattle.std.specs.Prelude.{ℕ, ◌+◌, ◌==◌, List, [], ◌∷◌, ◌++◌, length, Result, Ok, Err, Option, Some, None, ℤ, pos, int_lt, bytes_eq, codes, if◌then◌else◌, Bool, true, false}
 use Rattle.std.specs.Int.{int_max}
-use Rattle.rt_base.specs.declared.tech.SpacingTable.{SpacingTable}
 use Rattle.rt_words.specs.Reading.{decimal_of}
 use Rattle.rt_words.specs.declared.number.NumberFault.{NumberFault}
 use Rattle.rt_words.specs.declared.number.NumberFault.TheVariants.{NotNumber, TooManyDecimals, TooLarge, NotWhole, OutOfRange}

@@ -1,9 +1,8 @@
 -- VIA of LEF (LEF/DEF 5.8 Language Reference, LEF VIA).
-use Rattle.std.specs.Prelude.{◌≡◌, ℕ, List, [], ◌∷◌, ◌++◌, position, Result, Ok, Err, Option, Some, None, bytes_eq, codes, slice_get, if◌then◌else◌, Bool, true, false, not, ◌||◌}
+use Rattle.std.specs.Prelude.{ℕ, List, [], ◌∷◌, ◌++◌, position, Result, Ok, Err, Option, Some, None, bytes_eq, codes, slice_get, if◌then◌else◌, Bool, true, false, not}
 use Rattle.std.specs.List.{list_any}
 use Rattle.rt_base.specs.Sides.{Sides}
 use Rattle.rt_base.specs.declared.tech.LayerNo.{LayerNo}
-use Rattle.rt_base.specs.declared.tech.Via.{Via}
 use Rattle.rt_forms.specs.Lexeme.{Place}
 use Rattle.rt_forms.specs.Form.{Form, next, one, check, done, ◌>>=◌, choose, loop, Turn, More, Done}
 use Rattle.rt_forms.specs.Reading.{the_word, semicolon, rest, at, is_name_word}

@@ -1,5 +1,4 @@
-use Rattle.std.proofs.Common.{sym, ap, ◌∙◌, arith, rules}
-use Rattle.lef_text.specs.Shapes.{counted_at}
+use Rattle.std.proofs.Common.{sym, arith, rules}
 use Rattle.lef_text.proofs.Counts.{counted_past, counted_answer}
 use Rattle.lef_text.proofs.shapes.count_at.Goals as goal
 
