@@ -23,7 +23,7 @@ fn count_up_to(lines: &[i64], bound: i64) -> usize
     lines.partition_point(|z| *z <= bound)
 }
 
-/// Those of these numbers, which ascend, that lie in a range.
+/// At least those of these numbers, which ascend, that lie in a range.
 pub fn within(lines: &[i64], range: Span) -> &[i64]
     requires { AllPairs (λ a b. a <ℤ b) lines.now }
     ensures { (z : ℤ) → Contains lines.now z → range.lo ≤ℤ z → z ≤ℤ range.hi → Contains result.now z }
