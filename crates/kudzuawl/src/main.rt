@@ -7,10 +7,9 @@ mod notice;
 use notice::{notice, spoilt};
 use router::run_serial;
 use shelf::{PlainShelf, PlainSink, Sink};
-use std::env;
-use std::io;
 use std::process::ExitCode;
 use std::rt::Runtime;
+use std::{env, io};
 
 /// The command line without the program's name.
 fn words<R: Runtime + AllocGlobal>(rt: &R) -> io::Result<Vec<String>> {

@@ -134,13 +134,13 @@ lef_def l d e f h k = elim k [
 def_def : (l d : Source) (e f : DefError) → IsDefRefusal l d e → IsDefRefusal l d f → e ≡ f
 def_def l d e f h k = elim h [
   | inl a ↦ elim k [
-      | inl b ↦ one_fault units_form lawful_units def_faults (lexemes d.text d.tokens) e f a b
-      | inr b ↦ absurd (units_clash d b.0 e b.2.has_units a)
-    ]
+    | inl b ↦ one_fault units_form lawful_units def_faults (lexemes d.text d.tokens) e f a b
+    | inr b ↦ absurd (units_clash d b.0 e b.2.has_units a)
+  ]
   | inr a ↦ elim k [
-      | inl b ↦ absurd (units_clash d a.0 f a.2.has_units b)
-      | inr b ↦ one_fault def_form lawful_def def_faults (lexemes d.text d.tokens) e f a.3 b.3
-    ]
+    | inl b ↦ absurd (units_clash d a.0 f a.2.has_units b)
+    | inr b ↦ one_fault def_form lawful_def def_faults (lexemes d.text d.tokens) e f a.3 b.3
+  ]
 ]
 
 says_def : (l d : Source) (u : ℕ) (x : LefValue) (a : DefValue) (e : DefError) → SaysBoth l d u x a → IsDefRefusal l d e → ⊥
@@ -159,28 +159,28 @@ one_text_refusal : (l d : Source) (r s : Refusal) → IsTextRefusal l d r → Is
 unfolding IsLefPart IsDefPart IsBuildPart
 one_text_refusal l d r s h k = elim (text_parts l d r h) [
   | inl a ↦ elim (text_parts l d s k) [
-      | inl b ↦ a.1 ∙ ap Lef (lef_lef l d a.0 b.0 a.2 b.2) ∙ sym b.1
-      | inr v ↦ elim v [
-          | inl b ↦ absurd (lef_def l d a.0 b.0 a.2 b.2)
-          | inr b ↦ absurd (says_clash l d b.2.0 a.2.0 b.2.1 a.0 b.2.3.in_units a.2.1 a.2.2)
-        ]
+    | inl b ↦ a.1 ∙ ap Lef (lef_lef l d a.0 b.0 a.2 b.2) ∙ sym b.1
+    | inr v ↦ elim v [
+      | inl b ↦ absurd (lef_def l d a.0 b.0 a.2 b.2)
+      | inr b ↦ absurd (says_clash l d b.2.0 a.2.0 b.2.1 a.0 b.2.3.in_units a.2.1 a.2.2)
     ]
+  ]
   | inr u ↦ elim u [
-      | inl a ↦ elim (text_parts l d s k) [
-          | inl b ↦ absurd (lef_def l d b.0 a.0 b.2 a.2)
-          | inr v ↦ elim v [
-              | inl b ↦ a.1 ∙ ap Def (def_def l d a.0 b.0 a.2 b.2) ∙ sym b.1
-              | inr b ↦ absurd (says_def l d b.2.0 b.2.1 b.2.2 a.0 b.2.3 a.2)
-            ]
-        ]
-      | inr a ↦ elim (text_parts l d s k) [
-          | inl b ↦ absurd (says_clash l d a.2.0 b.2.0 a.2.1 b.0 a.2.3.in_units b.2.1 b.2.2)
-          | inr v ↦ elim v [
-              | inl b ↦ absurd (says_def l d a.2.0 a.2.1 a.2.2 b.0 a.2.3 b.2)
-              | inr b ↦ a.1 ∙ ap Build (build_build l d a.0 b.0 a.2 b.2) ∙ sym b.1
-            ]
-        ]
+    | inl a ↦ elim (text_parts l d s k) [
+      | inl b ↦ absurd (lef_def l d b.0 a.0 b.2 a.2)
+      | inr v ↦ elim v [
+        | inl b ↦ a.1 ∙ ap Def (def_def l d a.0 b.0 a.2 b.2) ∙ sym b.1
+        | inr b ↦ absurd (says_def l d b.2.0 b.2.1 b.2.2 a.0 b.2.3 a.2)
+      ]
     ]
+    | inr a ↦ elim (text_parts l d s k) [
+      | inl b ↦ absurd (says_clash l d a.2.0 b.2.0 a.2.1 b.0 a.2.3.in_units b.2.1 b.2.2)
+      | inr v ↦ elim v [
+        | inl b ↦ absurd (says_def l d a.2.0 a.2.1 a.2.2 b.0 a.2.3 b.2)
+        | inr b ↦ a.1 ∙ ap Build (build_build l d a.0 b.0 a.2 b.2) ∙ sym b.1
+      ]
+    ]
+  ]
 ]
 
 -- where there is a design the texts are not refused
@@ -189,12 +189,12 @@ unfolding IsLefPart IsDefPart IsBuildPart
 no_text_refusal l d x r h k = elim (text_parts l d r k) [
   | inl a ↦ says_clash l d h.units a.2.0 h.lef_says a.0 h.say.in_units a.2.1 a.2.2
   | inr v ↦ elim v [
-      | inl a ↦ says_def l d h.units h.lef_says h.def_says a.0 h.say a.2
-      | inr a ↦
-          let same = both_same l d a.2.0 h.units a.2.1 h.lef_says a.2.2 h.def_says a.2.3 h.say in
-          let other : Refuses h.lef_says h.def_says (options_of h.lef_says h.def_says) a.0 = rw (same.0, same.1) at a.2.4 in
-          no_refusal h.lef_says h.def_says (options_of h.lef_says h.def_says) x a.0 h.gives other
-    ]
+    | inl a ↦ says_def l d h.units h.lef_says h.def_says a.0 h.say a.2
+    | inr a ↦
+        let same = both_same l d a.2.0 h.units a.2.1 h.lef_says a.2.2 h.def_says a.2.3 h.say in
+        let other : Refuses h.lef_says h.def_says (options_of h.lef_says h.def_says) a.0 = rw (same.0, same.1) at a.2.4 in
+        no_refusal h.lef_says h.def_says (options_of h.lef_says h.def_says) x a.0 h.gives other
+  ]
 ]
 
 -- ---- the outcome
@@ -255,26 +255,26 @@ one_lef_file : (files : Files) (name : List ℕ) (r s : Refusal) → IsLefFileRe
 unfolding IsLong IsCut
 one_lef_file files name r s h k = elim (lef_parts (Some files) name r h) [
   | inl a ↦ elim (lef_parts (Some files) name s k) [
-      | inl b ↦ inr (inl (a.0, b.0, a.1, b.1))
-      | inr b ↦ absurd (long_text files name lef_most a.0 b.2.text b.2.holds b.2.within a.2)
-    ]
+    | inl b ↦ inr (inl (a.0, b.0, a.1, b.1))
+    | inr b ↦ absurd (long_text files name lef_most a.0 b.2.text b.2.holds b.2.within a.2)
+  ]
   | inr a ↦ elim (lef_parts (Some files) name s k) [
-      | inl b ↦ absurd (long_text files name lef_most b.0 a.2.text a.2.holds a.2.within b.2)
-      | inr b ↦ inl (a.1 ∙ ap lef_scan (uncut_same files name lef_most a.0 b.0 a.2 b.2) ∙ sym b.1)
-    ]
+    | inl b ↦ absurd (long_text files name lef_most b.0 a.2.text a.2.holds a.2.within b.2)
+    | inr b ↦ inl (a.1 ∙ ap lef_scan (uncut_same files name lef_most a.0 b.0 a.2 b.2) ∙ sym b.1)
+  ]
 ]
 
 one_def_file : (files : Files) (name : List ℕ) (r s : Refusal) → IsDefFileRefusal (Some files) name r → IsDefFileRefusal (Some files) name s → AreSame r s
 unfolding IsLong IsCut
 one_def_file files name r s h k = elim (def_parts (Some files) name r h) [
   | inl a ↦ elim (def_parts (Some files) name s k) [
-      | inl b ↦ inr (inr (a.0, b.0, a.1, b.1))
-      | inr b ↦ absurd (long_text files name def_most a.0 b.2.text b.2.holds b.2.within a.2)
-    ]
+    | inl b ↦ inr (inr (a.0, b.0, a.1, b.1))
+    | inr b ↦ absurd (long_text files name def_most a.0 b.2.text b.2.holds b.2.within a.2)
+  ]
   | inr a ↦ elim (def_parts (Some files) name s k) [
-      | inl b ↦ absurd (long_text files name def_most b.0 a.2.text a.2.holds a.2.within b.2)
-      | inr b ↦ inl (a.1 ∙ ap def_scan (uncut_same files name def_most a.0 b.0 a.2 b.2) ∙ sym b.1)
-    ]
+    | inl b ↦ absurd (long_text files name def_most b.0 a.2.text a.2.holds a.2.within b.2)
+    | inr b ↦ inl (a.1 ∙ ap def_scan (uncut_same files name def_most a.0 b.0 a.2 b.2) ∙ sym b.1)
+  ]
 ]
 
 -- both files are cut in one way
@@ -291,28 +291,28 @@ texts_same files names r s h k =
 pub one_refusal_of_files : (files : Files) (names : FileNames) (r s : Refusal) → IsFirstRefusal (Some files) names r → IsFirstRefusal (Some files) names s → AreSame r s
 one_refusal_of_files files names r s h k = elim h [
   | inl a ↦ elim k [
-      | inl b ↦ one_lef_file files names.lef r s a b
-      | inr v ↦ elim v [
-          | inl b ↦ absurd (no_lef_refusal files names.lef b.lef r b.cut a)
-          | inr b ↦ absurd (no_lef_refusal files names.lef b.lef r b.sources.lef_source a)
-        ]
+    | inl b ↦ one_lef_file files names.lef r s a b
+    | inr v ↦ elim v [
+      | inl b ↦ absurd (no_lef_refusal files names.lef b.lef r b.cut a)
+      | inr b ↦ absurd (no_lef_refusal files names.lef b.lef r b.sources.lef_source a)
     ]
+  ]
   | inr u ↦ elim u [
-      | inl a ↦ elim k [
-          | inl b ↦ absurd (no_lef_refusal files names.lef a.lef s a.cut b)
-          | inr v ↦ elim v [
-              | inl b ↦ one_def_file files names.def r s a.refused b.refused
-              | inr b ↦ absurd (no_def_refusal files names.def b.def r b.sources.def_source a.refused)
-            ]
-        ]
-      | inr a ↦ elim k [
-          | inl b ↦ absurd (no_lef_refusal files names.lef a.lef s a.sources.lef_source b)
-          | inr v ↦ elim v [
-              | inl b ↦ absurd (no_def_refusal files names.def a.def s a.sources.def_source b.refused)
-              | inr b ↦ inl (texts_same files names r s a b)
-            ]
-        ]
+    | inl a ↦ elim k [
+      | inl b ↦ absurd (no_lef_refusal files names.lef a.lef s a.cut b)
+      | inr v ↦ elim v [
+        | inl b ↦ one_def_file files names.def r s a.refused b.refused
+        | inr b ↦ absurd (no_def_refusal files names.def b.def r b.sources.def_source a.refused)
+      ]
     ]
+    | inr a ↦ elim k [
+      | inl b ↦ absurd (no_lef_refusal files names.lef a.lef s a.sources.lef_source b)
+      | inr v ↦ elim v [
+        | inl b ↦ absurd (no_def_refusal files names.def a.def s a.sources.def_source b.refused)
+        | inr b ↦ inl (texts_same files names r s a b)
+      ]
+    ]
+  ]
 ]
 
 -- and none where they give a design
@@ -320,12 +320,12 @@ pub no_refusal_of_files : (files : Files) (names : FileNames) (text : List ℕ) 
 no_refusal_of_files files names text d r h k = elim k [
   | inl b ↦ no_lef_refusal files names.lef h.lef r h.sources.lef_source b
   | inr v ↦ elim v [
-      | inl b ↦ no_def_refusal files names.def h.def r h.sources.def_source b.refused
-      | inr b ↦
-          let same = sources_same files names b.lef b.def h.lef h.def b.sources h.sources in
-          let other : IsTextRefusal h.lef h.def r = rw (same.0, same.1) at b.refused in
-          no_text_refusal h.lef h.def d r h.design other
-    ]
+    | inl b ↦ no_def_refusal files names.def h.def r h.sources.def_source b.refused
+    | inr b ↦
+        let same = sources_same files names b.lef b.def h.lef h.def b.sources h.sources in
+        let other : IsTextRefusal h.lef h.def r = rw (same.0, same.1) at b.refused in
+        no_text_refusal h.lef h.def d r h.design other
+  ]
 ]
 
 -- refusals that are the same have one status
@@ -333,9 +333,9 @@ pub status_same : (r s : Refusal) → AreSame r s → status_of r ≡ status_of 
 status_same r s h = elim h [
   | inl e ↦ ap status_of e
   | inr v ↦ elim v [
-      | inl e ↦ ap status_of e.2 ∙ sym (ap status_of e.3)
-      | inr e ↦ ap status_of e.2 ∙ sym (ap status_of e.3)
-    ]
+    | inl e ↦ ap status_of e.2 ∙ sym (ap status_of e.3)
+    | inr e ↦ ap status_of e.2 ∙ sym (ap status_of e.3)
+  ]
 ]
 
 -- ---- what a run answers
@@ -344,12 +344,12 @@ status_cases : (n : ℕ) → n ≤ 10 → (n ≤ 1) ⊎ ((2 ≤ n) × (n ≤ 8))
 status_cases n h = elim (cases_lt 1 n) [
   | inr low ↦ inl low
   | inl above ↦ elim (cases_lt 8 n) [
-      | inr mid ↦ inr (inl (omega arith, mid))
-      | inl high ↦ elim (cases_lt 9 n) [
-          | inr nine ↦ inr (inr (inl (omega arith)))
-          | inl ten ↦ inr (inr (inr (omega arith)))
-        ]
+    | inr mid ↦ inr (inl (omega arith, mid))
+    | inl high ↦ elim (cases_lt 9 n) [
+      | inr nine ↦ inr (inr (inl (omega arith)))
+      | inl ten ↦ inr (inr (inr (omega arith)))
     ]
+  ]
 ]
 
 -- a cause that is no fault is the first refusal
@@ -371,17 +371,17 @@ exact_refusal names before after done files r runs told first ne = elim (status_
       let run = runs.routed low in
       absurd (no_refusal_of_files files names run.text run.design r (subst (λ t. IsDesigned t names run.text run.design) told run.designed) first)
   | inr u ↦ elim u [
-      | inl mid ↦
-          let run = runs.refused mid.0 mid.1 in
-          let other = subst (λ t. IsFirstRefusal t names run.refusal) told (cause_refusal before.shelf after.shelf names run.refusal run.cause ne) in
-          inl (run.status ∙ status_same run.refusal r (one_refusal_of_files files names run.refusal r other first))
-      | inr v ↦ elim v [
-          | inl nine ↦
-              let run = runs.unwritten nine in
-              absurd (no_refusal_of_files files names run.text run.design r (subst (λ t. IsDesigned t names run.text run.design) told run.designed) first)
-          | inr ten ↦ inr ten
-        ]
+    | inl mid ↦
+        let run = runs.refused mid.0 mid.1 in
+        let other = subst (λ t. IsFirstRefusal t names run.refusal) told (cause_refusal before.shelf after.shelf names run.refusal run.cause ne) in
+        inl (run.status ∙ status_same run.refusal r (one_refusal_of_files files names run.refusal r other first))
+    | inr v ↦ elim v [
+      | inl nine ↦
+          let run = runs.unwritten nine in
+          absurd (no_refusal_of_files files names run.text run.design r (subst (λ t. IsDesigned t names run.text run.design) told run.designed) first)
+      | inr ten ↦ inr ten
     ]
+  ]
 ]
 
 -- where the files give a design
@@ -389,18 +389,18 @@ exact_design : (names : FileNames) (before after : Moment) (done : Done) (files 
 exact_design names before after done files text d runs told designed ne ne' = elim (status_cases done.status runs.most) [
   | inl low ↦ inl low
   | inr u ↦ elim u [
-      | inl mid ↦
-          let run = runs.refused mid.0 mid.1 in
-          let other = subst (λ t. IsFirstRefusal t names run.refusal) told (cause_refusal before.shelf after.shelf names run.refusal run.cause ne) in
-          absurd (no_refusal_of_files files names text d run.refusal designed other)
-      | inr v ↦ elim v [
-          | inl nine ↦ elim (runs.unwritten nine).fault [
-              | inl x ↦ absurd (ne x.risen)
-              | inr x ↦ absurd (ne' x.risen)
-            ]
-          | inr ten ↦ inr ten
-        ]
+    | inl mid ↦
+        let run = runs.refused mid.0 mid.1 in
+        let other = subst (λ t. IsFirstRefusal t names run.refusal) told (cause_refusal before.shelf after.shelf names run.refusal run.cause ne) in
+        absurd (no_refusal_of_files files names text d run.refusal designed other)
+    | inr v ↦ elim v [
+      | inl nine ↦ elim (runs.unwritten nine).fault [
+        | inl x ↦ absurd (ne x.risen)
+        | inr x ↦ absurd (ne' x.risen)
+      ]
+      | inr ten ↦ inr ten
     ]
+  ]
 ]
 
 -- a run answers what its files come to
