@@ -145,10 +145,12 @@ fn cut_up(alloc: Global, points: &[Point]) -> Result<Vec<Rect>, Memory>
     Ok(out)
 }
 
-/// The rectangles of a polygon: between each two neighbouring heights of its points, the maximal
-/// ranges of x that are inside by the even-odd rule, bottom up and left to right. The points go
-/// round the polygon, the last one next to the first; of an edge that isn't upright the x of its
-/// first point counts, so the polygon should be rectilinear.
+/// The rectangles of a polygon, bottom up and left to right: between each two neighbouring heights
+/// of its points, the x of the edges that pass there, ascending and without those that cancel out,
+/// taken from the 1st to the 2nd, from the 3rd to the 4th and so on. The points go round the
+/// polygon, the last one next to the first; of an edge that isn't upright the x of its first point
+/// counts, so the polygon should be rectilinear. That this is the inside by the even-odd rule isn't
+/// proved.
 pub fn slabs(alloc: Global, points: &[Point]) -> Result<Vec<Rect>, Memory>
     ensures value { IfOk result (λ v. v.items ≡ slabs_of points.now) }
     ensures within { (most : ℕ) → All (IsPointWithin most) points.now → IfOk result (λ v. All (AreSidesWithin most) v.items) }
