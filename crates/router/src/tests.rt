@@ -143,28 +143,26 @@ struct Ran {
     out: MemSink,
 }
 
+const ROUTE: [&str; 6] = ["route", "l", "d", "-", "o", "j"];
+
 /// Runs the words over the files `l` and `d`, where the listed calls of the shelf and the sink fail.
 fn run_words(
     alloc: Global,
     list: &[&str],
-    def: &[u8],
+    files: Vec<(String, Vec<u8>)>,
     shelf_fails: &[u32],
     sink_fails: &[u32],
 ) -> Result<Ran, AllocError> {
     let words = words_of(alloc, list)?;
-    let mut files = MemShelf::new(
-        alloc,
-        files_of(alloc, LEF, def)?,
-        numbers(alloc, shelf_fails)?,
-    );
+    let mut files = MemShelf::new(alloc, files, numbers(alloc, shelf_fails)?);
     let mut out = MemSink::new(alloc, numbers(alloc, sink_fails)?);
     let done = run_serial(alloc, &words, &mut files, &mut out);
     Ok(Ran { done, files, out })
 }
 
 /// Routes a design.
-fn route(alloc: Global, def: &[u8]) -> Result<Ran, AllocError> {
-    run_words(alloc, &["route", "l", "d", "-", "o", "j"], def, &[], &[])
+fn route(alloc: Global, lef: &[u8], def: &[u8]) -> Result<Ran, AllocError> {
+    run_words(alloc, &ROUTE, files_of(alloc, lef, def)?, &[], &[])
 }
 
 /// A DEF text with these pins and nets.
@@ -178,7 +176,7 @@ fn def_with(alloc: Global, pins: &[u8], nets: &[u8]) -> Result<Vec<u8>, AllocErr
 
 #[test]
 fn routes_one_net(rt: HostRuntime) -> Result<(), Fail> {
-    let ran = route(rt.alloc(), DEF)?;
+    let ran = route(rt.alloc(), LEF, DEF)?;
     assert_eq!(rt; ran.done.status, 0);
     assert_eq!(rt; ran.files.file("o"), Some(ROUTED));
     assert_eq!(rt; ran.files.file("j"), Some(JOURNAL));
@@ -252,7 +250,7 @@ const CHIPS: [Chip; 6] = [
 fn routes_chips(rt: HostRuntime) -> Result<(), Fail> {
     let alloc = rt.alloc();
     for chip in &CHIPS {
-        let ran = route(alloc, &def_with(alloc, chip.pins, chip.nets)?)?;
+        let ran = route(alloc, LEF, &def_with(alloc, chip.pins, chip.nets)?)?;
         assert_eq!(rt; ran.done.status, chip.status);
         assert_eq!(rt; ran.out.text(), chip.report);
         if let Some(journal) = chip.journal {
@@ -267,31 +265,96 @@ fn a_walk_without_edges_leaves_the_text(rt: HostRuntime) -> Result<(), Fail> {
     let alloc = rt.alloc();
     for chip in &CHIPS[..2] {
         let def = def_with(alloc, chip.pins, chip.nets)?;
-        let ran = route(alloc, &def)?;
+        let ran = route(alloc, LEF, &def)?;
         assert_eq!(rt; ran.files.file("o"), Some(def.as_slice()));
     }
     Ok(())
 }
 
+/// Calls of the shelf and of the sink that fail, and what a run then leaves.
+struct Failing {
+    shelf: &'static [u32],
+    sink: &'static [u32],
+    status: u8,
+    says: &'static [u8],
+    /// How many halves of OUT and of the journal were written.
+    out: u8,
+    journal: u8,
+}
+
+const FAILING: [Failing; 6] = [
+    Failing {
+        shelf: &[0],
+        sink: &[],
+        status: 8,
+        says: b"error 8 read l\n",
+        out: 0,
+        journal: 0,
+    },
+    Failing {
+        shelf: &[1],
+        sink: &[],
+        status: 8,
+        says: b"error 8 read d\n",
+        out: 0,
+        journal: 0,
+    },
+    Failing {
+        shelf: &[2],
+        sink: &[],
+        status: 9,
+        says: b"error 9 write o\n",
+        out: 1,
+        journal: 0,
+    },
+    Failing {
+        shelf: &[3],
+        sink: &[],
+        status: 9,
+        says: b"error 9 write j\n",
+        out: 2,
+        journal: 1,
+    },
+    Failing {
+        shelf: &[],
+        sink: &[0],
+        status: 9,
+        says: REPORT,
+        out: 2,
+        journal: 2,
+    },
+    Failing {
+        shelf: &[2],
+        sink: &[0],
+        status: 9,
+        says: b"error 9 write o\n",
+        out: 1,
+        journal: 0,
+    },
+];
+
+fn halves(text: &[u8], count: u8) -> Option<&[u8]> {
+    match count {
+        0 => None,
+        1 => Some(&text[..text.len() / 2]),
+        _ => Some(text),
+    }
+}
+
 #[test]
 fn faults_end_a_run(rt: HostRuntime) -> Result<(), Fail> {
     let alloc = rt.alloc();
-    let command = ["route", "l", "d", "-", "o", "j"];
-    let ran = run_words(alloc, &command, DEF, &[3], &[])?;
-    assert_eq!(rt; ran.done.status, 9);
-    assert_eq!(rt; ran.out.text(), b"error 9 write j\n".as_slice());
-    assert_eq!(rt; ran.files.file("o"), Some(ROUTED));
-    assert_eq!(rt; ran.files.file("j"), Some(&JOURNAL[..JOURNAL.len() / 2]));
-    assert_eq!(rt; ran.done.journal.blocks().len(), 1);
-    let ran = run_words(alloc, &command, DEF, &[1], &[])?;
-    assert_eq!(rt; ran.done.status, 8);
-    assert_eq!(rt; ran.out.text(), b"error 8 read d\n".as_slice());
-    assert_eq!(rt; ran.files.file("o"), None);
-    assert_eq!(rt; ran.files.file("d"), Some(DEF));
-    let ran = run_words(alloc, &command, DEF, &[], &[0])?;
-    assert_eq!(rt; ran.done.status, 9);
-    assert_eq!(rt; ran.files.file("o"), Some(ROUTED));
-    assert_eq!(rt; ran.files.file("j"), Some(JOURNAL));
+    for row in &FAILING {
+        let files = files_of(alloc, LEF, DEF)?;
+        let ran = run_words(alloc, &ROUTE, files, row.shelf, row.sink)?;
+        assert_eq!(rt; ran.done.status, row.status);
+        assert!(rt; row.says.starts_with(ran.out.text()));
+        assert_eq!(rt; ran.out.text() == row.says, row.sink.is_empty());
+        assert_eq!(rt; ran.files.file("o"), halves(ROUTED, row.out));
+        assert_eq!(rt; ran.files.file("j"), halves(JOURNAL, row.journal));
+        assert_eq!(rt; ran.files.file("l"), Some(LEF));
+        assert_eq!(rt; ran.files.file("d"), Some(DEF));
+    }
     Ok(())
 }
 
@@ -325,10 +388,197 @@ const REFUSED: [(&[&str], &[u8]); 9] = [
 
 #[test]
 fn refuses_words(rt: HostRuntime) -> Result<(), Fail> {
+    let alloc = rt.alloc();
     for (words, line) in &REFUSED {
-        let ran = run_words(rt.alloc(), words, DEF, &[0], &[])?;
+        let ran = run_words(alloc, words, files_of(alloc, LEF, DEF)?, &[0], &[])?;
         assert_eq!(rt; ran.done.status, 2);
         assert_eq!(rt; ran.out.text(), *line);
+    }
+    Ok(())
+}
+
+/// The text with this in the place of its line with this number, counted from 1.
+fn with_line(alloc: Global, text: &[u8], number: u32, by: &[u8]) -> Result<Vec<u8>, AllocError> {
+    let mut changed = Vec::new(alloc);
+    let mut line = 1_u32;
+    for byte in text {
+        let ends = *byte == b'\n';
+        if line != number {
+            changed.push(*byte)?;
+        } else if ends {
+            changed.extend_from_slice(by)?;
+            changed.push(b'\n')?;
+        }
+        if ends {
+            line = line.saturating_add(1);
+        }
+    }
+    Ok(changed)
+}
+
+/// A line of one of the two texts in the place of its own, and how the run then ends.
+struct Change {
+    lef: bool,
+    line: u32,
+    by: &'static [u8],
+    status: u8,
+    says: &'static [u8],
+}
+
+const CHANGES: [Change; 14] = [
+    Change {
+        lef: false,
+        line: 14,
+        by: b"END DESIGN\n#\0",
+        status: 4,
+        says: b"error 4 not-text 15\n",
+    },
+    Change {
+        lef: false,
+        line: 14,
+        by: b"END DESIGN\nx",
+        status: 4,
+        says: b"error 4 expected 15\n",
+    },
+    Change {
+        lef: false,
+        line: 4,
+        by: b"DIEAREA ( 0 0 ) ( 1073741825 2000 ) ;",
+        status: 4,
+        says: b"error 4 number 4 too-large\n",
+    },
+    Change {
+        lef: false,
+        line: 4,
+        by: b"DIEAREA ( 0 0 ) ( 2000 2000 ) ( 5 5 ) ;",
+        status: 4,
+        says: b"error 4 die-polygon 4\n",
+    },
+    Change {
+        lef: false,
+        line: 5,
+        by: b"TRACKS Y 100 DO 10 STEP 0 LAYER M1 ;",
+        status: 4,
+        says: b"error 4 number 5 out-of-range\n",
+    },
+    Change {
+        lef: false,
+        line: 11,
+        by: b"NETS 2 ;",
+        status: 4,
+        says: b"error 4 count NETS 2 1\n",
+    },
+    Change {
+        lef: false,
+        line: 13,
+        by: b"- a ;\nEND NETS",
+        status: 4,
+        says: b"error 4 twice 13 a\n",
+    },
+    Change {
+        lef: false,
+        line: 6,
+        by: b"TRACKS X 0 DO 65537 STEP 1 LAYER M2 ;",
+        status: 7,
+        says: b"error 7 limit tracks 65537 65536\n",
+    },
+    Change {
+        lef: true,
+        line: 1,
+        by: b"VERSION \"5.8 ;",
+        status: 3,
+        says: b"error 3 quote 1\n",
+    },
+    Change {
+        lef: true,
+        line: 11,
+        by: b"END M9",
+        status: 3,
+        says: b"error 3 expected 11\n",
+    },
+    Change {
+        lef: true,
+        line: 9,
+        by: b"  WIDTH 0.1000000 ;",
+        status: 3,
+        says: b"error 3 number 9 too-many-decimals\n",
+    },
+    Change {
+        lef: true,
+        line: 9,
+        by: b"  WIDTH 0.101 ;",
+        status: 3,
+        says: b"error 3 odd-width M1\n",
+    },
+    Change {
+        lef: true,
+        line: 9,
+        by: b"  WIDTH 0.0005 ;",
+        status: 3,
+        says: b"error 3 number 9 not-whole\n",
+    },
+    // A macro's port is cut inside a rectangle.
+    Change {
+        lef: true,
+        line: 31,
+        by: b"MACRO B\n\n\n\n\nPIN A\nDIRECTION INPUT ;\nPORT\nLAYER M1 ;\nRECT 0 0 0.1",
+        status: 3,
+        says: b"error 3 unended 40\n",
+    },
+];
+
+#[test]
+fn single_changes_are_refused(rt: HostRuntime) -> Result<(), Fail> {
+    let alloc = rt.alloc();
+    for change in &CHANGES {
+        let text = if change.lef { LEF } else { DEF };
+        let changed = with_line(alloc, text, change.line, change.by)?;
+        let ran = if change.lef {
+            route(alloc, &changed, DEF)?
+        } else {
+            route(alloc, LEF, &changed)?
+        };
+        assert_eq!(rt; ran.done.status, change.status);
+        assert_eq!(rt; ran.out.text(), change.says);
+        assert_eq!(rt; ran.files.file("o"), None);
+        assert_eq!(rt; ran.files.file("j"), None);
+    }
+    Ok(())
+}
+
+/// The first lines of a text.
+fn first_lines(alloc: Global, text: &[u8], count: u32) -> Result<Vec<u8>, AllocError> {
+    let mut first = Vec::new(alloc);
+    let mut line = 1_u32;
+    for byte in text {
+        if line <= count {
+            first.push(*byte)?;
+        }
+        if *byte == b'\n' {
+            line = line.saturating_add(1);
+        }
+    }
+    Ok(first)
+}
+
+/// How many lines of LEF are left, the status, and how what is said ends.
+const CUTS: [(u32, u8, &[u8]); 7] = [
+    (0, 6, b"error 6 scale 100 1000\n"),
+    (1, 6, b"error 6 scale 100 1000\n"),
+    (4, 6, b"error 6 no-layer M1\n"),
+    (11, 6, b"error 6 no-layer M2\n"),
+    (15, 6, b"error 6 no-layer M2\n"),
+    (22, 1, b"skipped 0\nno-path a\n"),
+    (30, 0, REPORT),
+];
+
+#[test]
+fn lef_may_end_behind_a_statement(rt: HostRuntime) -> Result<(), Fail> {
+    let alloc = rt.alloc();
+    for (count, status, says) in &CUTS {
+        let ran = route(alloc, &first_lines(alloc, LEF, *count)?, DEF)?;
+        assert_eq!(rt; ran.done.status, *status);
+        assert!(rt; ran.out.text().ends_with(says));
     }
     Ok(())
 }
