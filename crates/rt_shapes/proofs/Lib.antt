@@ -1,5 +1,10 @@
 pub mod Risings
+pub mod Parity
 pub mod Searching
 pub mod Counting
 pub mod CutLemmas
 pub mod SlabLemmas
+pub mod Somewhere
+pub mod PairLemmas
+pub mod HeightLemmas
+pub mod EvenOddLemmas

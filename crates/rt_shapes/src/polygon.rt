@@ -1,6 +1,7 @@
-//! Rectilinear polygons, cut into rectangles (LEF POLYGON).
+//! Rectilinear polygons, cut into rectangles (LEF 5.8, POLYGON).
 ghost use Rattle.std.specs.Prelude.{◌≡◌, ◌++◌, ◌∷◌, [], ◌<ℤ◌, ℕ, OnOk, IfOk, All};
 ghost use Rattle.rt_base.specs.Ranges.{IsPointWithin, AreSidesWithin};
+ghost use Rattle.rt_shapes.specs.EvenOdd.{AreSlabs};
 ghost use Rattle.rt_shapes.specs.Polygons.{is_straight, is_rectilinear_of, IsAscending, heights_of, edges_of, passes, crossed, crossings_of, slab_of, slabs_from, slabs_of};
 
 use crate::ascending::{put, toggle};
@@ -145,14 +146,15 @@ fn cut_up(alloc: Global, points: &[Point]) -> Result<Vec<Rect>, Memory>
     Ok(out)
 }
 
-/// The rectangles of a polygon, bottom up and left to right: between each two neighbouring heights
-/// of its points, the x of the edges that pass there, ascending and without those that cancel out,
-/// taken from the 1st to the 2nd, from the 3rd to the 4th and so on. The points go round the
-/// polygon, the last one next to the first; of an edge that isn't upright the x of its first point
-/// counts, so the polygon should be rectilinear. That this is the inside by the even-odd rule isn't
-/// proved.
+/// The rectangles of a polygon, bottom up and left to right: between each height of its points and
+/// the next one, the widest x intervals that are inside by the even-odd rule. A unit square is
+/// inside where an odd number of the edges that pass its row stand left of it. The points go round
+/// the polygon, the last one next to the first. They needn't be rectilinear, but of an edge that
+/// isn't upright the x of its first point counts in all rows that it passes. `Memory` where memory
+/// runs out (LEF 5.8, POLYGON).
 pub fn slabs(alloc: Global, points: &[Point]) -> Result<Vec<Rect>, Memory>
     ensures value { IfOk result (λ v. v.items ≡ slabs_of points.now) }
+    ensures inside { IfOk result (λ v. AreSlabs points.now v.items) }
     ensures within { (most : ℕ) → All (IsPointWithin most) points.now → IfOk result (λ v. All (AreSidesWithin most) v.items) }
 {
     let rects = cut_up(alloc, points)?;
