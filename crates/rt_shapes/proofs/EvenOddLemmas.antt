@@ -21,7 +21,7 @@ crossed-ascending y xs (e ∷ es) up = crossed-ascending y (crossed y xs e) es (
     one true is = rw is (ascending-toggled e.from.x xs up)
     one false is = rw is up
 
-crossings-ascending : (y : ℤ) (edges : List Edge) → IsAscending (crossings_of y edges)
+pub crossings-ascending : (y : ℤ) (edges : List Edge) → IsAscending (crossings_of y edges)
 crossings-ascending y edges = crossed-ascending y [] edges ascending-nil
 
 -- all rows between two neighbouring heights are alike

@@ -8,3 +8,4 @@ pub mod Somewhere
 pub mod PairLemmas
 pub mod HeightLemmas
 pub mod EvenOddLemmas
+pub mod SweepLemmas

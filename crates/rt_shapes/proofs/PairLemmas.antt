@@ -20,7 +20,7 @@ upto-more x z zs h = rw (count-cons (λ w. int_le w x) z zs, le_true z x h)
 upto-none : (x : ℤ) (zs : List ℤ) → All (λ z. x <ℤ z) zs → upto x zs ≡ 0
 upto-none x zs all = count-none (λ z. int_le z x) zs (λ k d h. le_false (get_or zs k d) x (all k d h))
 
-first_above : (x z : ℤ) (zs : List ℤ) → x <ℤ z → IsAscending (z ∷ zs) → All (λ w. x <ℤ w) (z ∷ zs)
+pub first_above : (x z : ℤ) (zs : List ℤ) → x <ℤ z → IsAscending (z ∷ zs) → All (λ w. x <ℤ w) (z ∷ zs)
 first_above x z zs lt up = All-cons (λ w. x <ℤ w) z zs lt (above_more x z zs lt (ascending-head z zs up))
 
 -- from the 1st to the 2nd, from the 3rd to the 4th and so on: where an odd number is at most x
