@@ -1,5 +1,5 @@
 -- Counts of lists, and whether they are odd.
-use Rattle.std.proofs.Common.{Bool, true, false, cond, ◌≡◌, ℕ, ◌+◌, ◌%◌, ◌<◌, ◌≤◌, suc, ℤ, ◌<ℤ◌, ◌≤ℤ◌, int_lt, int_le, ◌&&◌, List, [], ◌∷◌, fold, length, get_or, All, count_by, refl, sym, ap, ◌∙◌, arith}
+use Rattle.std.proofs.Common.{Bool, true, false, cond, ◌≡◌, ℕ, ◌+◌, ◌%◌, ℤ, ◌<ℤ◌, ◌≤ℤ◌, int_lt, int_le, ◌&&◌, List, [], ◌∷◌, fold, length, All, count_by, refl, ap, arith}
 use Rattle.std.proofs.lemmas.Int.{ints, by_lt_z}
 use Rattle.std.proofs.lemmas.List.Elements.{All-head, All-tail}
 use Rattle.std.proofs.lemmas.List.Sums.{sum_by-cons}

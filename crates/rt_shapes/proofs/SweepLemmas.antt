@@ -1,5 +1,5 @@
 -- The rows of a polygon from the bottom up.
-use Rattle.std.proofs.Common.{Bool, true, false, not, cond, ◌≡◌, ◌≢◌, ◌⊎◌, inl, inr, ℕ, ◌+◌, ◌%◌, ◌<◌, ◌≤◌, zero, suc, ℤ, pos, ◌<ℤ◌, ◌≤ℤ◌, int_lt, int_le, ◌&&◌, List, [], ◌∷◌, ◌++◌, map, fold, length, get_or, take, drop, All, count_by, refl, sym, ap, subst, ◌∙◌, arith}
+use Rattle.std.proofs.Common.{Bool, true, false, not, cond, ◌≡◌, ◌⊎◌, inl, inr, ℕ, ◌+◌, ◌%◌, ◌<◌, ◌≤◌, zero, suc, ℤ, pos, ◌<ℤ◌, ◌≤ℤ◌, int_lt, int_le, ◌&&◌, List, [], ◌∷◌, ◌++◌, map, fold, length, get_or, take, drop, All, count_by, refl, sym, ap, subst, ◌∙◌, arith}
 use Rattle.std.specs.Ordering.{int_cmp, is_lt, int_eq, MatchOrdering}
 use Rattle.std.specs.declared.cmp.Ordering.{Ordering}
 use Rattle.std.specs.declared.cmp.Ordering.TheVariants.{Less, Equal, Greater}
@@ -16,7 +16,7 @@ use Rattle.std.proofs.lemmas.Bool.{cases_lt}
 use Rattle.rt_shapes.proofs.PairLemmas.{first_above}
 use Rattle.rt_shapes.proofs.EvenOddLemmas.{crossings-ascending}
 use Rattle.rt_base.specs.declared.geometry.Point.{Point}
-use Rattle.rt_shapes.specs.Polygons.{Edge, IsAscending, edges_from, edges_of, passes, with_number, toggled, heights_of, crossings_of, slabs_from, slabs_over, slabs_of}
+use Rattle.rt_shapes.specs.Polygons.{Edge, IsAscending, edges_from, edges_of, passes, toggled, heights_of, crossings_of, slabs_from, slabs_over, slabs_of}
 use Rattle.rt_shapes.specs.Sweep.{turns_of, IsRising}
 use Rattle.rt_shapes.proofs.Risings.{lt_true, lt_false, same_from_both, ascending-head, ascending-tail, ascending-nil}
 use Rattle.rt_shapes.proofs.Parity.{le_true, le_false, differ, count-cons, count-agree, count-none, count-crossings, count-toggled, passes-differ}

@@ -1,10 +1,8 @@
-use Rattle.std.proofs.Common.{◌≡◌, ◌++◌, ◌∷◌, [], ◌+◌, ◌%◌, ℤ, ℕ, pos, List, count_by, drop, take, get_or, refl, sym, ap, subst, ◌∙◌, to_z, of_z, w64, rules, arith}
-use Rattle.std.specs.List.Sorted.{IsPermutation}
+use Rattle.std.proofs.Common.{◌≡◌, ◌++◌, ◌+◌, ◌%◌, ℤ, pos, count_by, drop, take, get_or, refl, sym, ◌∙◌, to_z, of_z, w64, rules, arith}
 use Rattle.std.proofs.lemmas.Int.{to_z-of_z}
 use Rattle.std.proofs.lemmas.List.{drop_all, append-nil}
 use Rattle.rt_base.specs.declared.geometry.Point.{Point}
-use Rattle.rt_shapes.specs.Polygons.{Edge, IsAscending, crossings_of, slab_of, slabs_from}
-use Rattle.rt_shapes.specs.Sweep.{IsRising, turns_of}
+use Rattle.rt_shapes.specs.Polygons.{crossings_of, slab_of}
 use Rattle.rt_shapes.proofs.SlabLemmas.{slabs_more, next_ascending}
 use Rattle.rt_shapes.proofs.SweepLemmas.{IsSwept, swept-more, swept-higher, swept_is, rising-drop}
 use Rattle.rt_shapes.proofs.polygon.add_slabs.Goals as goal

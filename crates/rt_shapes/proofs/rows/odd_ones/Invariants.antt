@@ -1,4 +1,4 @@
-use Rattle.std.proofs.Common.{◌≡◌, [], drop, fold, ℤ}
+use Rattle.std.proofs.Common.{◌≡◌, [], drop, fold}
 use Rattle.rt_shapes.specs.Polygons.{IsAscending, toggled}
 use Rattle.rt_shapes.proofs.rows.odd_ones.Given as goal
 
