@@ -1,5 +1,11 @@
 pub mod Risings
+pub mod Parity
 pub mod Searching
 pub mod Counting
 pub mod CutLemmas
 pub mod SlabLemmas
+pub mod Somewhere
+pub mod PairLemmas
+pub mod HeightLemmas
+pub mod EvenOddLemmas
+pub mod SweepLemmas

@@ -18,7 +18,7 @@ le_from_lt a b h = omega (arith, ints)
 le_self : (a : ℤ) → a ≤ℤ a
 le_self a = omega (arith, ints)
 
-same_from_both : (a b : ℤ) → a ≤ℤ b → b ≤ℤ a → a ≡ b
+pub same_from_both : (a b : ℤ) → a ≤ℤ b → b ≤ℤ a → a ≡ b
 same_from_both a b h k = omega (arith, ints)
 
 pub ascending-tail : (x : ℤ) (xs : List ℤ) → IsAscending (x ∷ xs) → IsAscending xs
@@ -33,7 +33,7 @@ ascending-cons x xs all up = AllPairs-cons (λ a b. a <ℤ b) x xs all up
 pub ascending-nil : IsAscending []
 ascending-nil i j d lt h = absurd (omega arith)
 
-above_more : (z y : ℤ) (ys : List ℤ) → z <ℤ y → All (λ x. y <ℤ x) ys → All (λ x. z <ℤ x) ys
+pub above_more : (z y : ℤ) (ys : List ℤ) → z <ℤ y → All (λ x. y <ℤ x) ys → All (λ x. z <ℤ x) ys
 above_more z y ys lt all k d h = trans (get_or ys k d) (all k d h)
   where
     trans : (x : ℤ) → y <ℤ x → z <ℤ x

@@ -48,17 +48,20 @@ crossings_within Q y xs (e ∷ es) all each = crossings_within Q y (crossed y xs
     by_test true = All-toggled Q e.from.x xs (All-head (λ (f : Edge). Q f.from.x) e es each) all
     by_test false = all
 
-heights_within : (Q : ℤ → Type 0) (ys : List ℤ) (points : List Point) → All Q ys → All (λ (p : Point). Q p.y) points → All Q (fold (λ zs (p : Point). with_number p.y zs) ys points)
+pub heights_within : (Q : ℤ → Type 0) (ys : List ℤ) (points : List Point) → All Q ys → All (λ (p : Point). Q p.y) points → All Q (fold (λ zs (p : Point). with_number p.y zs) ys points)
 heights_within Q ys [] all each = all
 heights_within Q ys (p ∷ ps) all each = heights_within Q (with_number p.y ys) ps (All-with_number Q p.y ys (All-head (λ (q : Point). Q q.y) p ps each) all) (All-tail (λ (q : Point). Q q.y) p ps each)
 
-starts_from : (P : Point → Type 0) (first p : Point) (ps : List Point) → All P (p ∷ ps) → All (λ (e : Edge). P e.from) (edges_from first p ps)
-starts_from P first p [] all = All-cons (λ (e : Edge). P e.from) (record { from = p; to = first }) [] (All-head P p [] all) (All-nil (λ (e : Edge). P e.from))
-starts_from P first p (q ∷ qs) all = All-cons (λ (e : Edge). P e.from) (record { from = p; to = q }) (edges_from first q qs) (All-head P p (q ∷ qs) all) (starts_from P first q qs (All-tail P p (q ∷ qs) all))
+-- each edge goes from a point to a point
+ends_from : (P : Point → Type 0) (first p : Point) (ps : List Point) → P first → All P (p ∷ ps) → All (λ (e : Edge). P e.from × P e.to) (edges_from first p ps)
+ends_from P first p [] start all = All-cons (λ (e : Edge). P e.from × P e.to) (record { from = p; to = first }) [] (All-head P p [] all, start) (All-nil (λ (e : Edge). P e.from × P e.to))
+ends_from P first p (q ∷ qs) start all =
+    let rest = All-tail P p (q ∷ qs) all in
+    All-cons (λ (e : Edge). P e.from × P e.to) (record { from = p; to = q }) (edges_from first q qs) (All-head P p (q ∷ qs) all, All-head P q qs rest) (ends_from P first q qs start rest)
 
-starts_of : (P : Point → Type 0) (points : List Point) → All P points → All (λ (e : Edge). P e.from) (edges_of points)
-starts_of P [] all = All-nil (λ (e : Edge). P e.from)
-starts_of P (p ∷ ps) all = starts_from P p p ps all
+pub ends_of : (P : Point → Type 0) (points : List Point) → All P points → All (λ (e : Edge). P e.from × P e.to) (edges_of points)
+ends_of P [] all = All-nil (λ (e : Edge). P e.from × P e.to)
+ends_of P (p ∷ ps) all = ends_from P p p ps (All-head P p ps all) all
 
 slab_within : (most : ℕ) (low high : ℤ) (xs : List ℤ) → IsWithin most low → IsWithin most high → All (IsWithin most) xs → All (AreSidesWithin most) (slab_of low high xs)
 slab_within most low high [] l h all = All-nil (AreSidesWithin most)
@@ -78,4 +81,4 @@ slabs_over_within most edges [] each all = All-nil (AreSidesWithin most)
 slabs_over_within most edges (low ∷ ys) each all = slabs_from_within most edges low ys each (All-head (IsWithin most) low ys all) (All-tail (IsWithin most) low ys all)
 
 pub slabs_within : (most : ℕ) (points : List Point) → All (IsPointWithin most) points → All (AreSidesWithin most) (slabs_of points)
-slabs_within most points all = slabs_over_within most (edges_of points) (heights_of points) (starts_of (λ (p : Point). IsWithin most p.x) points (λ k d h. (all k d h).0)) (heights_within (IsWithin most) [] points (All-nil (IsWithin most)) (λ k d h. (all k d h).1))
+slabs_within most points all = slabs_over_within most (edges_of points) (heights_of points) (λ k d h. (ends_of (λ (p : Point). IsWithin most p.x) points (λ i e w. (all i e w).0) k d h).0) (heights_within (IsWithin most) [] points (All-nil (IsWithin most)) (λ k d h. (all k d h).1))

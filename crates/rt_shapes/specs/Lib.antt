@@ -1,2 +1,4 @@
 pub mod Polygons
+pub mod EvenOdd
+pub mod Sweep
 pub mod GeneratedVias

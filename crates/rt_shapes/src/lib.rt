@@ -4,6 +4,7 @@
 mod ascending;
 mod cut_array;
 mod polygon;
+mod rows;
 #[cfg(test)]
 mod tests;
 
