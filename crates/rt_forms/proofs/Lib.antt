@@ -5,3 +5,4 @@ pub mod Laws
 pub mod Skips
 pub mod Loops
 pub mod Whole
+pub mod Bytes

@@ -4,3 +4,4 @@ pub mod Reading
 pub mod Clauses
 pub mod Names
 pub mod Word
+pub mod Bytes
