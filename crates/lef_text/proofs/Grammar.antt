@@ -15,18 +15,23 @@ use Rattle.lef_text.specs.declared.error.LefError.{LefError}
 use Rattle.lef_text.specs.declared.library.Library.{Library}
 use Rattle.lef_text.specs.declared.library.LayerLines.{LayerLines}
 use Rattle.lef_text.specs.declared.library.ViaLines.{ViaLines}
+use Rattle.lef_text.specs.declared.library.FormLines.{FormLines}
 use Rattle.lef_text.specs.declared.library.LayerType.{LayerType}
 use Rattle.lef_text.specs.declared.library.LayerType.TheVariants as types
 use Rattle.lef_text.specs.declared.layer_words.LayerLine.{LayerLine}
 use Rattle.lef_text.specs.declared.layer_words.LayerLine.TheVariants as layer_lines
 use Rattle.lef_text.specs.declared.via_words.ViaLine.{ViaLine}
 use Rattle.lef_text.specs.declared.via_words.ViaLine.TheVariants as via_lines
+use Rattle.lef_text.specs.declared.via_words.FormLine.{FormLine}
+use Rattle.lef_text.specs.declared.via_words.FormLine.TheVariants as form_lines
 use Rattle.lef_text.specs.declared.statement_words.Statement.{Statement}
 use Rattle.lef_text.specs.declared.statement_words.Statement.TheVariants as statements
 use Rattle.lef_text.specs.Numbers.{length_line, rectangle}
+use Rattle.lef_text.specs.Polygons as polygons
 use Rattle.lef_text.specs.Tables as tables
 use Rattle.lef_text.specs.declared.library.Lengths.{Lengths}
 use Rattle.lef_text.specs.declared.library.Rows.{Rows}
+use Rattle.lef_text.specs.GeneratedVias as generated
 use Rattle.lef_text.specs.Layers as layers
 use Rattle.lef_text.specs.Vias as vias
 use Rattle.lef_text.specs.Shapes as shapes
@@ -39,6 +44,7 @@ use Rattle.lef_text.specs.declared.shape_words.ShapeLine.TheVariants as shape_li
 use Rattle.lef_text.specs.declared.macro_words.MacroLine.{MacroLine}
 use Rattle.lef_text.specs.declared.macro_words.MacroLine.TheVariants as macro_lines
 use Rattle.rt_base.specs.Sides.{Sides}
+use Rattle.rt_base.specs.declared.geometry.Point.{Point}
 use Rattle.rt_base.specs.declared.tech.LayerNo.{LayerNo}
 
 -- ---- numbers
@@ -50,6 +56,24 @@ lawful_length units least = search lawful
 lawful_rectangle : (in_macro : Bool) (units : ℕ) → Lawful (rectangle in_macro units)
 unfolding rectangle
 lawful_rectangle in_macro units = search lawful depth 16
+
+-- ---- polygons
+
+lawful_point_turn : (units : ℕ) (points : List Point) → Lawful (polygons.point_turn units points)
+unfolding polygons.point_turn
+lawful_point_turn units points = search lawful depth 16
+
+lawful_point_turns : (units : ℕ) (points : List Point) → Lawful (loop (polygons.point_turn units) points)
+unfolding polygons.point_turn
+lawful_point_turns units points = lawful_loop (polygons.point_turn units) points (lawful_point_turn units) (λ u. search consuming)
+
+lawful_points : (in_macro : Bool) (units : ℕ) → Lawful (polygons.polygon_points in_macro units)
+unfolding polygons.polygon_points
+lawful_points in_macro units = search (lawful, lawful_point_turns)
+
+lawful_polygon : (in_macro : Bool) (units : ℕ) (w : Place) → Lawful (polygons.polygon in_macro units w)
+unfolding polygons.polygon
+lawful_polygon in_macro units w = search (lawful, lawful_points)
 
 -- ---- tables and current densities
 
@@ -152,25 +176,52 @@ lawful_rect_line : (units : ℕ) (s : ViaLines) (w : Place) (layer : _) → Lawf
 lawful_rect_line units s w None = search lawful
 lawful_rect_line units s w (Some layer) = search (lawful, lawful_rectangle)
 
-lawful_polygon_of : {A : Type 0} (w : Place) (layer : Option (Option LayerNo)) → Lawful (vias.polygon_line {A = A} w layer)
-lawful_polygon_of w None = search lawful
-lawful_polygon_of w (Some layer) = search lawful
+lawful_polygon_line : (units : ℕ) (s : ViaLines) (w : Place) (layer : _) → Lawful (vias.polygon_line units s w layer)
+lawful_polygon_line units s w None = search lawful
+lawful_polygon_line units s w (Some layer) = search (lawful, lawful_polygon)
 
-lawful_generated_of : {A : Type 0} (w : Place) (layer : Option (Option LayerNo)) → Lawful (vias.generated_line {A = A} w layer)
-lawful_generated_of w None = search lawful
-lawful_generated_of w (Some layer) = search lawful
+lawful_pair : (units : ℕ) (least : ℤ) → Lawful (generated.pair units least)
+unfolding generated.pair
+lawful_pair units least = search lawful depth 16
+
+lawful_enclosure : (units : ℕ) → Lawful (generated.enclosure units)
+unfolding generated.enclosure
+lawful_enclosure units = search lawful depth 16
+
+lawful_three_layers : (lib : Library) → Lawful (generated.three_layers lib)
+unfolding generated.three_layers
+lawful_three_layers lib = search lawful depth 16
+
+lawful_rows_and_columns : Lawful generated.rows_and_columns
+unfolding generated.rows_and_columns
+lawful_rows_and_columns = search lawful depth 16
+
+lawful_rule_name : Lawful generated.rule_name
+unfolding generated.rule_name
+lawful_rule_name = search lawful
+
+lawful_new_line : (units : ℕ) (lib : Library) (f : FormLines) (k : FormLine) → Lawful (generated.new_line units lib f k)
+lawful_new_line units lib f form_lines.Rule = search (lawful, lawful_rule_name)
+lawful_new_line units lib f form_lines.CutSize = search (lawful, lawful_pair)
+lawful_new_line units lib f form_lines.Layers = search (lawful, lawful_three_layers)
+lawful_new_line units lib f form_lines.CutSpacing = search (lawful, lawful_pair)
+lawful_new_line units lib f form_lines.Enclosure = search (lawful, lawful_enclosure)
+lawful_new_line units lib f form_lines.RowCol = search (lawful, lawful_rows_and_columns)
+
+lawful_form_line : (units : ℕ) (lib : Library) (f : FormLines) (w : Place) (k : FormLine) → Lawful (generated.form_line units lib f w k)
+unfolding generated.form_line
+lawful_form_line units lib f w k = search (lawful, lawful_new_line)
+
+lawful_generated_line : (units : ℕ) (lib : Library) (s : ViaLines) (w : Place) (k : FormLine) (layer : Option (Option LayerNo)) → Lawful (vias.generated_line units lib s w k layer)
+lawful_generated_line units lib s w k None = search (lawful, lawful_form_line)
+lawful_generated_line units lib s w k (Some layer) = search lawful
 
 lawful_via_by : (units : ℕ) (lib : Library) (name : List ℕ) (s : ViaLines) (w : Place) (k : ViaLine) → Lawful (vias.line_by units lib name s w k)
 lawful_via_by units lib name s w via_lines.Layer = search lawful
 lawful_via_by units lib name s w via_lines.Rect = lawful_rect_line units s w s.layer
-lawful_via_by units lib name s w via_lines.Polygon = lawful_polygon_of w s.layer
+lawful_via_by units lib name s w via_lines.Polygon = lawful_polygon_line units s w s.layer
 lawful_via_by units lib name s w via_lines.Unused = search (lawful, lawful_up_to)
-lawful_via_by units lib name s w via_lines.Rule = lawful_generated_of w s.layer
-lawful_via_by units lib name s w via_lines.CutSize = lawful_generated_of w s.layer
-lawful_via_by units lib name s w via_lines.Layers = lawful_generated_of w s.layer
-lawful_via_by units lib name s w via_lines.CutSpacing = lawful_generated_of w s.layer
-lawful_via_by units lib name s w via_lines.Enclosure = lawful_generated_of w s.layer
-lawful_via_by units lib name s w via_lines.RowCol = lawful_generated_of w s.layer
+lawful_via_by units lib name s w (via_lines.Form k) = lawful_generated_line units lib s w k s.layer
 lawful_via_by units lib name s w via_lines.Refused = search lawful
 lawful_via_by units lib name s w via_lines.End = search lawful
 lawful_via_by units lib name s w via_lines.Unknown = search lawful
@@ -179,7 +230,7 @@ lawful_via_line : (units : ℕ) (lib : Library) (name : List ℕ) (s : ViaLines)
 unfolding vias.via_line
 lawful_via_line units lib name s = search (lawful_bind, lawful_next, lawful_via_by)
 
-lawful_via_lines : (units : ℕ) (lib : Library) (name : List ℕ) (s : ViaLines) → Lawful (loop (vias.via_line units lib name) s)
+pub lawful_via_lines : (units : ℕ) (lib : Library) (name : List ℕ) (s : ViaLines) → Lawful (loop (vias.via_line units lib name) s)
 unfolding vias.via_line
 lawful_via_lines units lib name s = lawful_loop (vias.via_line units lib name) s (lawful_via_line units lib name) (λ u. search consuming)
 
@@ -187,9 +238,13 @@ lawful_optional : (word : List ℕ) → Lawful (vias.optional word)
 unfolding vias.optional
 lawful_optional word = search lawful depth 16
 
+lawful_via_rects : (units : ℕ) (lib : Library) (name : List ℕ) → Lawful (vias.via_rects units lib name)
+unfolding vias.via_rects
+lawful_via_rects units lib name = search (lawful, lawful_via_lines)
+
 lawful_via : (units : ℕ) (lib : Library) → Lawful (vias.via_statement units lib)
 unfolding vias.via_statement
-lawful_via units lib = search (lawful, lawful_optional, lawful_via_lines) depth 16
+lawful_via units lib = search (lawful, lawful_optional, lawful_via_rects) depth 16
 
 -- ---- shapes
 
@@ -205,12 +260,16 @@ lawful_rect_of : (units : ℕ) (s : Shapes) (w : Place) (layer : Option (Option 
 lawful_rect_of units s w None = search lawful
 lawful_rect_of units s w (Some layer) = search (lawful, lawful_rectangle)
 
+lawful_polygon_of : (units : ℕ) (s : Shapes) (w : Place) (layer : Option (Option LayerNo)) → Lawful (shapes.polygon_line units s w layer)
+lawful_polygon_of units s w None = search lawful
+lawful_polygon_of units s w (Some layer) = search (lawful, lawful_polygon)
+
 lawful_shape_by : (units : ℕ) (s : Shapes) (w : Place) (k : ShapeLine) → Lawful (shapes.line_by units s w k)
 lawful_shape_by units s w shape_lines.Unused = search (lawful, lawful_up_to)
 lawful_shape_by units s w shape_lines.Layer = search (lawful, lawful_layer_words, lawful_layer_rest)
 lawful_shape_by units s w shape_lines.Width = search lawful
 lawful_shape_by units s w shape_lines.Rect = lawful_rect_of units s w s.layer
-lawful_shape_by units s w shape_lines.Polygon = lawful_polygon_of w s.layer
+lawful_shape_by units s w shape_lines.Polygon = lawful_polygon_of units s w s.layer
 lawful_shape_by units s w shape_lines.Refused = search lawful
 lawful_shape_by units s w shape_lines.End = search lawful
 lawful_shape_by units s w shape_lines.Unknown = search lawful

@@ -3,6 +3,7 @@ pub mod Yields
 pub mod Small
 pub mod Sound
 pub mod Rectangles
+pub mod Arrays
 pub mod SoundMacros
 pub mod SoundVias
 pub mod Bytes

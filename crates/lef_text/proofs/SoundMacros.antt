@@ -22,8 +22,10 @@ use Rattle.lef_text.specs.declared.macro_words.MacroLine.TheVariants as macro_li
 use Rattle.lef_text.specs.IsLef.{IsPin, IsOn}
 use Rattle.lef_text.specs.Words.{shape_line_of, macro_line_of}
 use Rattle.lef_text.specs.Numbers.{number, rectangle}
+use Rattle.lef_text.specs.Polygons.{polygon}
 use Rattle.lef_text.specs.Layers.{new_name}
 use Rattle.lef_text.specs.Vias as vias
+use Rattle.lef_text.specs.OnLayers.{with_shape, with_shapes}
 use Rattle.lef_text.specs.Shapes as shapes
 use Rattle.lef_text.specs.Shapes.{Shapes, shapes_of, Drawn, drawn}
 use Rattle.lef_text.specs.Macros as macros
@@ -31,7 +33,7 @@ use Rattle.lef_text.specs.Macros.{Cell, cell_of}
 use Rattle.lef_text.proofs.Yields.{Yields, yields_bind, yields_then, yields_done, yields_refused, yields_one, yields_choose, OfTurn, yields_loop}
 use Rattle.lef_text.proofs.Small.{passed_so, ok_is}
 use Rattle.lef_text.proofs.Sound.{IsSound, IsMacroRead, IsNumber, SoundTurn, new_name_is, distinct_push}
-use Rattle.lef_text.proofs.Rectangles.{yields_number, yields_rectangle, yields_polygon, slice_get_all}
+use Rattle.lef_text.proofs.Rectangles.{yields_number, yields_rectangle, yields_polygon, shapes_all, slice_get_all}
 
 -- the text before, but for its counts
 abbrev Same : Library → Library → Type 0
@@ -82,7 +84,7 @@ same_numbers lib0 lib e all = subst (λ (l : Library). All (IsNumber (layers_of 
 same_count : (lib0 lib : Library) → Same lib0 lib → layers_of lib ≡ layers_of lib0
 same_count lib0 lib e = ap layers_of e
 
-shape_ok : (layers : ℕ) (rects : List (LayerNo × Sides)) (l : Option LayerNo) (r : Sides) → All (IsOn layers (2 ^ 30)) rects → IsNumber layers l → AreSidesWithin (2 ^ 30) r → All (IsOn layers (2 ^ 30)) (vias.with_shape rects l r)
+shape_ok : (layers : ℕ) (rects : List (LayerNo × Sides)) (l : Option LayerNo) (r : Sides) → All (IsOn layers (2 ^ 30)) rects → IsNumber layers l → AreSidesWithin (2 ^ 30) r → All (IsOn layers (2 ^ 30)) (with_shape rects l r)
 shape_ok layers rects None r all n small = all
 shape_ok layers rects (Some k) r all n small = All-push (IsOn layers (2 ^ 30)) rects (k, r) all (n, small)
 
@@ -91,6 +93,16 @@ yields_rect units lib0 s w None h n = yields_refused _ (ShapesTurn lib0)
 yields_rect units lib0 s w (Some l) h n =
     yields_bind (rectangle true units) _ (AreSidesWithin (2 ^ 30)) (ShapesTurn lib0) (yields_rectangle true units)
     (λ r small. yields_done _ (ShapesTurn lib0) (record { same = h.same; layer = h.layer; shapes = shape_ok (layers_of lib0) s.shapes l r h.shapes n small }))
+
+polygon_ok : (layers : ℕ) (rects : List (LayerNo × Sides)) (l : Option LayerNo) (added : List Sides) → All (IsOn layers (2 ^ 30)) rects → IsNumber layers l → All (AreSidesWithin (2 ^ 30)) added → All (IsOn layers (2 ^ 30)) (with_shapes rects l added)
+polygon_ok layers rects l added all n small =
+    shapes_all (IsOn layers (2 ^ 30)) rects l added all (λ k d h known q. shape_ok layers known l _ q n (small k d h))
+
+yields_polygon_line : (units : ℕ) (lib0 : Library) (s : Shapes) (w : Place) (l : Option (Option LayerNo)) → AreShapes lib0 s → IfSome l (IsNumber (layers_of lib0)) → Yields (shapes.polygon_line units s w l) (ShapesTurn lib0)
+yields_polygon_line units lib0 s w None h n = yields_refused _ (ShapesTurn lib0)
+yields_polygon_line units lib0 s w (Some l) h n =
+    yields_bind (polygon true units w) _ (All (AreSidesWithin (2 ^ 30))) (ShapesTurn lib0) (yields_polygon true units w)
+    (λ rects small. yields_done _ (ShapesTurn lib0) (record { same = h.same; layer = h.layer; shapes = polygon_ok (layers_of lib0) s.shapes l rects h.shapes n small }))
 
 yields_words : (lib : Library) → All (IsNumber (layers_of lib)) lib.numbers → Yields (shapes.layer_words lib) (λ (r : ℕ × Option LayerNo). IsNumber (layers_of lib) r.1)
 unfolding shapes.layer_words
@@ -107,7 +119,7 @@ yields_shape_by units lib0 s w shape_lines.Layer all h =
     (λ lib e. yields_done _ P (record { same = e; layer = subst (λ (m : ℕ). IsNumber m r.1) (same_count lib0 s.lib h.same) n; shapes = h.shapes })))
 yields_shape_by units lib0 s w shape_lines.Width all h = yields_then (number units) _ (ShapesTurn lib0) (λ n. yields_then semicolon _ (ShapesTurn lib0) (λ u. yields_done (More s) (ShapesTurn lib0) h))
 yields_shape_by units lib0 s w shape_lines.Rect all h = yields_rect units lib0 s w s.layer h h.layer
-yields_shape_by units lib0 s w shape_lines.Polygon all h = yields_polygon (ShapesTurn lib0) w s.layer
+yields_shape_by units lib0 s w shape_lines.Polygon all h = yields_polygon_line units lib0 s w s.layer h h.layer
 yields_shape_by units lib0 s w shape_lines.Refused all h = yields_refused _ (ShapesTurn lib0)
 yields_shape_by units lib0 s w shape_lines.End all h = yields_done (Done s) (ShapesTurn lib0) h
 yields_shape_by units lib0 s w shape_lines.Unknown all h = yields_refused _ (ShapesTurn lib0)

@@ -2,8 +2,11 @@ pub mod Faults
 pub mod IsLef
 pub mod Words
 pub mod Numbers
+pub mod Polygons
 pub mod Tables
 pub mod Layers
+pub mod OnLayers
+pub mod GeneratedVias
 pub mod Vias
 pub mod Shapes
 pub mod Macros

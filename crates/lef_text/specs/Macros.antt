@@ -16,7 +16,7 @@ use Rattle.lef_text.specs.declared.macro_words.MacroLine.TheVariants as lines
 use Rattle.lef_text.specs.Words.{macro_line_of}
 use Rattle.lef_text.specs.Numbers.{number}
 use Rattle.lef_text.specs.Layers.{new_name}
-use Rattle.lef_text.specs.Vias.{unknown}
+use Rattle.lef_text.specs.OnLayers.{unknown}
 use Rattle.lef_text.specs.Shapes.{Drawn, drawn, more_shapes}
 
 -- ---- PIN

@@ -12,7 +12,9 @@ use Rattle.lef_text.specs.declared.shape_words.ShapeLine.{ShapeLine}
 use Rattle.lef_text.specs.declared.shape_words.ShapeLine.TheVariants as lines
 use Rattle.lef_text.specs.Words.{shape_line_of}
 use Rattle.lef_text.specs.Numbers.{number, rectangle}
-use Rattle.lef_text.specs.Vias.{with_shape, unknown, refused_line, polygon_line, optional}
+use Rattle.lef_text.specs.Polygons.{polygon}
+use Rattle.lef_text.specs.OnLayers.{with_shape, with_shapes, unknown, refused_line}
+use Rattle.lef_text.specs.Vias.{optional}
 
 -- the shapes so far, the last LAYER, and the text before with its counts
 pub record Shapes : Type 0 where
@@ -88,12 +90,18 @@ rect_line units s w (Some layer) = do
   r ← rectangle true units
   done (More (shapes_of s.lib s.layer (with_shape s.shapes layer r)))
 
+abbrev pub polygon_line : ℕ → Shapes → Place → Option (Option LayerNo) → Form LefError (Turn Shapes)
+polygon_line units s w None = unknown w
+polygon_line units s w (Some layer) = do
+  rects ← polygon true units w
+  done (More (shapes_of s.lib s.layer (with_shapes s.shapes layer rects)))
+
 abbrev pub line_by : ℕ → Shapes → Place → ShapeLine → Form LefError (Turn Shapes)
 line_by units s w lines.Unused = unused_line s
 line_by units s w lines.Layer = shape_layer units s
 line_by units s w lines.Width = width_line units s
 line_by units s w lines.Rect = rect_line units s w s.layer
-line_by units s w lines.Polygon = polygon_line w s.layer
+line_by units s w lines.Polygon = polygon_line units s w s.layer
 line_by units s w lines.Refused = refused_line w
 line_by units s w lines.End = done (Done s)
 line_by units s w lines.Unknown = unknown w

@@ -1,5 +1,5 @@
 -- VIA of LEF (LEF/DEF 5.8 Language Reference, LEF VIA).
-use Rattle.std.specs.Prelude.{ℕ, List, [], ◌∷◌, ◌++◌, position, Result, Ok, Err, Option, Some, None, bytes_eq, codes, slice_get, if◌then◌else◌, Bool, true, false, not}
+use Rattle.std.specs.Prelude.{ℕ, List, [], ◌∷◌, ◌++◌, position, Result, Ok, Err, Option, Some, None, bytes_eq, codes, fold, slice_get, if◌then◌else◌, Bool, true, false, not}
 use Rattle.std.specs.List.{list_any}
 use Rattle.rt_base.specs.Sides.{Sides}
 use Rattle.rt_base.specs.declared.tech.LayerNo.{LayerNo}
@@ -7,45 +7,20 @@ use Rattle.rt_forms.specs.Lexeme.{Place}
 use Rattle.rt_forms.specs.Form.{Form, next, one, check, done, ◌>>=◌, choose, loop, Turn, More, Done}
 use Rattle.rt_forms.specs.Reading.{the_word, semicolon, rest, at, is_name_word}
 use Rattle.lef_text.specs.declared.error.LefError.{LefError}
-use Rattle.lef_text.specs.declared.error.LefError.TheVariants.{Expected, Unknown, Twice, NoLayer, Refused, NotYet}
+use Rattle.lef_text.specs.declared.error.LefError.TheVariants.{Expected, Twice, Refused}
 use Rattle.lef_text.specs.declared.library.Library.{Library}
 use Rattle.lef_text.specs.declared.library.ViaLines.{ViaLines}
+use Rattle.lef_text.specs.declared.via_words.FormLine.{FormLine}
 use Rattle.lef_text.specs.declared.via_words.ViaLine.{ViaLine}
 use Rattle.lef_text.specs.declared.via_words.ViaLine.TheVariants as lines
 use Rattle.lef_text.specs.IsLef.{is_path_word}
 use Rattle.lef_text.specs.Words.{via_line_of}
 use Rattle.lef_text.specs.Numbers.{rectangle}
-
--- ---- layers by name
-
--- the number of a layer that is named, None inside where it is dropped
-abbrev pub number_at : List (Option LayerNo) → Option ℕ → Option (Option LayerNo)
-number_at numbers None = None
-number_at numbers (Some k) = slice_get numbers k
-
-abbrev pub layer_number : List (List ℕ) → List (Option LayerNo) → List ℕ → Option (Option LayerNo)
-layer_number names numbers word = number_at numbers (position (λ n. bytes_eq word n) names)
-
-abbrev pub known : Place → Option (Option LayerNo) → Result (Option LayerNo) LefError
-known p None = Err (NoLayer p.line p.word)
-known p (Some n) = Ok n
-
--- the name of a layer before
-abbrev pub layer_word : Library → Place → Result (Option LayerNo) LefError
-layer_word lib p = if is_name_word p.word then known p (layer_number lib.layer_names lib.numbers p.word) else Err (Expected p.line)
-
--- a shape on a layer that is dropped is dropped
-abbrev pub with_shape : List (LayerNo × Sides) → Option LayerNo → Sides → List (LayerNo × Sides)
-with_shape shapes None s = shapes
-with_shape shapes (Some layer) s = shapes ++ (layer, s) ∷ []
+use Rattle.lef_text.specs.Polygons.{polygon}
+use Rattle.lef_text.specs.OnLayers.{layer_word, with_shape, with_shapes, unknown, refused_line}
+use Rattle.lef_text.specs.GeneratedVias.{form_line, no_form_lines, is_begun, lacks_a_line, rects_at_end}
 
 -- ---- lines
-
-abbrev pub unknown : {A : Type 0} → Place → Form LefError A
-unknown w = check (Err (Unknown w.line))
-
-abbrev pub refused_line : {A : Type 0} → Place → Form LefError A
-refused_line w = check (Err (Refused w.line w.word))
 
 abbrev pub layer_line : Library → ViaLines → Form LefError (Turn ViaLines)
 layer_line lib s = do
@@ -53,45 +28,48 @@ layer_line lib s = do
   _ ← semicolon
   done (More (record s { layer = Some layer }))
 
+-- LAYER begins no line of a generated via
+abbrev pub first_form : Library → ViaLines → Place → Form LefError (Turn ViaLines)
+first_form lib s w = choose (is_begun s.form) (unknown w) (layer_line lib s)
+
 abbrev pub rect_line : ℕ → ViaLines → Place → Option (Option LayerNo) → Form LefError (Turn ViaLines)
 rect_line units s w None = unknown w
 rect_line units s w (Some layer) = do
   r ← rectangle false units
   done (More (record s { rects = with_shape s.rects layer r }))
 
+abbrev pub polygon_line : ℕ → ViaLines → Place → Option (Option LayerNo) → Form LefError (Turn ViaLines)
+polygon_line units s w None = unknown w
+polygon_line units s w (Some layer) = do
+  rects ← polygon false units w
+  done (More (record s { rects = with_shapes s.rects layer rects }))
+
 abbrev pub unused_line : ViaLines → Form LefError (Turn ViaLines)
 unused_line s = do
   _ ← rest
   done (More s)
 
-abbrev pub end_line : List ℕ → ViaLines → Form LefError (Turn ViaLines)
-end_line name s = do
+-- a generated via has all its lines
+abbrev pub end_line : List ℕ → ViaLines → Place → Form LefError (Turn ViaLines)
+end_line name s w = choose (lacks_a_line s.form) (unknown w) (do
   _ ← the_word name
-  done (Done s)
+  done (Done s))
 
--- a polygon, which isn't read yet, on a layer
-abbrev pub polygon_line : {A : Type 0} → Place → Option (Option LayerNo) → Form LefError A
-polygon_line w None = unknown w
-polygon_line w (Some layer) = check (Err (NotYet w.line))
-
--- a line of the generated form, which isn't read yet, where no LAYER stands before
-abbrev pub generated_line : {A : Type 0} → Place → Option (Option LayerNo) → Form LefError A
-generated_line w None = check (Err (NotYet w.line))
-generated_line w (Some layer) = unknown w
+-- a line of the generated form, where no LAYER stands before
+abbrev pub generated_line : ℕ → Library → ViaLines → Place → FormLine → Option (Option LayerNo) → Form LefError (Turn ViaLines)
+generated_line units lib s w k None = do
+  f ← form_line units lib s.form w k
+  done (More (record s { form = f }))
+generated_line units lib s w k (Some layer) = unknown w
 
 abbrev pub line_by : ℕ → Library → List ℕ → ViaLines → Place → ViaLine → Form LefError (Turn ViaLines)
-line_by units lib name s w lines.Layer = layer_line lib s
+line_by units lib name s w lines.Layer = first_form lib s w
 line_by units lib name s w lines.Rect = rect_line units s w s.layer
-line_by units lib name s w lines.Polygon = polygon_line w s.layer
+line_by units lib name s w lines.Polygon = polygon_line units s w s.layer
 line_by units lib name s w lines.Unused = unused_line s
-line_by units lib name s w lines.Rule = generated_line w s.layer
-line_by units lib name s w lines.CutSize = generated_line w s.layer
-line_by units lib name s w lines.Layers = generated_line w s.layer
-line_by units lib name s w lines.CutSpacing = generated_line w s.layer
-line_by units lib name s w lines.Enclosure = generated_line w s.layer
-line_by units lib name s w lines.RowCol = generated_line w s.layer
+line_by units lib name s w (lines.Form k) = generated_line units lib s w k s.layer
 line_by units lib name s w lines.Refused = refused_line w
-line_by units lib name s w lines.End = end_line name s
+line_by units lib name s w lines.End = end_line name s w
 line_by units lib name s w lines.Unknown = unknown w
 
 unfoldable pub via_line : ℕ → Library → List ℕ → ViaLines → Form LefError (Turn ViaLines)
@@ -119,18 +97,24 @@ optional word = do
       (done false)
 
 abbrev pub no_via_lines : ViaLines
-no_via_lines = record { layer = None; rects = [] }
+no_via_lines = record { layer = None; rects = []; form = no_form_lines }
 
-abbrev pub with_via : Library → List ℕ → Bool → ViaLines → Library
-with_via lib name usable s = record lib { vias = lib.vias ++ record { name = name; usable = usable; rects = s.rects } ∷ [] }
+abbrev pub with_via : Library → List ℕ → Bool → List (LayerNo × Sides) → Library
+with_via lib name usable rects = record lib { vias = lib.vias ++ record { name = name; usable = usable; rects = rects } ∷ [] }
 
 abbrev pub with_via_name : Library → List ℕ → Library
 with_via_name lib name = record lib { via_names = lib.via_names ++ name ∷ [] }
 
+-- the rectangles of a via, behind its name
+unfoldable pub via_rects : ℕ → Library → List ℕ → Form LefError (List (LayerNo × Sides))
+via_rects units lib name = do
+  s ← loop (via_line units lib name) no_via_lines
+  done (rects_at_end s.form s.rects)
+
 abbrev pub via_body : ℕ → Library → List ℕ → Bool → Form LefError (Turn Library)
 via_body units lib name usable = do
-  s ← loop (via_line units lib name) no_via_lines
-  done (More (with_via lib name usable s))
+  rects ← via_rects units lib name
+  done (More (with_via lib name usable rects))
 
 -- behind the word VIA
 unfoldable pub via_statement : ℕ → Library → Form LefError (Turn Library)

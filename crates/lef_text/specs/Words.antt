@@ -6,6 +6,7 @@ use Rattle.lef_text.specs.declared.layer_words.LayerLine.{LayerLine}
 use Rattle.lef_text.specs.declared.layer_words.LayerLine.TheVariants as layer_lines
 use Rattle.lef_text.specs.declared.via_words.ViaLine.{ViaLine}
 use Rattle.lef_text.specs.declared.via_words.ViaLine.TheVariants as via_lines
+use Rattle.lef_text.specs.declared.via_words.FormLine.TheVariants as form_lines
 use Rattle.lef_text.specs.declared.macro_words.MacroLine.{MacroLine}
 use Rattle.lef_text.specs.declared.macro_words.MacroLine.TheVariants as macro_lines
 use Rattle.lef_text.specs.declared.shape_words.ShapeLine.{ShapeLine}
@@ -45,12 +46,12 @@ via_line_of word =
     else if bytes_eq word (codes "RECT") then via_lines.Rect
     else if bytes_eq word (codes "POLYGON") then via_lines.Polygon
     else if bytes_eq word (codes "RESISTANCE") || bytes_eq word (codes "PROPERTY") || bytes_eq word (codes "FOREIGN") then via_lines.Unused
-    else if bytes_eq word (codes "VIARULE") then via_lines.Rule
-    else if bytes_eq word (codes "CUTSIZE") then via_lines.CutSize
-    else if bytes_eq word (codes "LAYERS") then via_lines.Layers
-    else if bytes_eq word (codes "CUTSPACING") then via_lines.CutSpacing
-    else if bytes_eq word (codes "ENCLOSURE") then via_lines.Enclosure
-    else if bytes_eq word (codes "ROWCOL") then via_lines.RowCol
+    else if bytes_eq word (codes "VIARULE") then via_lines.Form form_lines.Rule
+    else if bytes_eq word (codes "CUTSIZE") then via_lines.Form form_lines.CutSize
+    else if bytes_eq word (codes "LAYERS") then via_lines.Form form_lines.Layers
+    else if bytes_eq word (codes "CUTSPACING") then via_lines.Form form_lines.CutSpacing
+    else if bytes_eq word (codes "ENCLOSURE") then via_lines.Form form_lines.Enclosure
+    else if bytes_eq word (codes "ROWCOL") then via_lines.Form form_lines.RowCol
     else if bytes_eq word (codes "MASK") || bytes_eq word (codes "ORIGIN") || bytes_eq word (codes "OFFSET") || bytes_eq word (codes "PATTERN") then via_lines.Refused
     else if bytes_eq word (codes "END") then via_lines.End
     else via_lines.Unknown

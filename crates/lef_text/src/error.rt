@@ -54,9 +54,6 @@ pub enum LefError {
     /// The text ends inside a statement. The line is that of its last word, 1 where there is none.
     #[error("line {line}: the text ends")]
     Unended { line: u32 },
-    /// A statement or a line that this reader doesn't read yet.
-    #[error("line {line}: this isn't read yet")]
-    NotYet { line: u32 },
     #[error("out of memory")]
     Memory,
 }

@@ -2,6 +2,9 @@
 #![tactic(auto)]
 
 mod error;
+#[cfg(test)]
+mod form_tests;
+mod generated_vias;
 mod layer_words;
 mod layers;
 mod lef;
@@ -9,6 +12,8 @@ mod library;
 mod macro_words;
 mod macros;
 mod numbers;
+mod on_layers;
+mod polygons;
 mod read;
 mod shape_words;
 mod shapes;

@@ -52,6 +52,24 @@ pub struct ViaLines {
     /// The last LAYER; `Some(None)` where it is dropped.
     pub layer: Option<Option<LayerNo>>,
     pub rects: Seq<(LayerNo, Rect)>,
+    pub form: FormLines,
+}
+
+/// The lines of the generated form of a via so far, None where one doesn't stand yet.
+#[derive(Clone, Copy, Debug, PartialEq, Eq)]
+pub struct FormLines {
+    /// Whether VIARULE stands.
+    pub rule: bool,
+    /// CUTSIZE, x and y.
+    pub cut: Option<(i64, i64)>,
+    /// LAYERS: the bottom layer, the layer of the cuts and the top layer, None where it is dropped.
+    pub layers: Option<(Option<LayerNo>, Option<LayerNo>, Option<LayerNo>)>,
+    /// CUTSPACING, x and y.
+    pub spacing: Option<(i64, i64)>,
+    /// ENCLOSURE: x and y of the bottom layer, then of the top layer.
+    pub enclosure: Option<(i64, i64, i64, i64)>,
+    /// ROWCOL: rows and columns.
+    pub array: Option<(u32, u32)>,
 }
 
 /// The lengths of a spacing table so far, and the last of them.

@@ -19,7 +19,7 @@ use std::alloc::Global;
 pub type Words<'a> = rt_forms::Words<'a, LefError>;
 
 /// The length that a word means.
-fn length_of(word: Word, units: u32) -> Result<i64, LefError>
+pub fn length_of(word: Word, units: u32) -> Result<i64, LefError>
     ensures { result ≡ at_line errors.Number word.entry.line (decimal_of word.entry.bytes.now units) }
 {
     match decimal(word.bytes, units) {
@@ -100,7 +100,7 @@ fn is_refused_shape(in_macro: bool, word: Word) -> bool
 }
 
 /// The first number of a shape.
-fn first_number(
+pub fn first_number(
     alloc: Global,
     words: &mut Words,
     units: u32,

@@ -9,8 +9,10 @@ ghost use Rattle.lef_text.specs.Shapes.{counted_at, layer_place as layer_place_f
 use crate::error::LefError;
 use crate::library::Library;
 use crate::numbers::{Words, number, rectangle};
+use crate::on_layers::{add_shape, add_shapes};
+use crate::polygons::polygon;
 use crate::shape_words::{ShapeLine, shape_line_of};
-use crate::vias::{add_shape, optional};
+use crate::vias::optional;
 use rt_base::{LayerNo, Name, Rect, Seq};
 use std::alloc::Global;
 
@@ -144,7 +146,11 @@ fn shape_line(
         },
         ShapeLine::Polygon => match *layer {
             None => Err(LefError::Unknown { line: word.line }),
-            Some(_) => Err(LefError::NotYet { line: word.line }),
+            Some(number) => {
+                let rects = polygon(alloc, words, units, true, word)?;
+                add_shapes(shapes, number, rects.as_slice())?;
+                Ok(false)
+            }
         },
         ShapeLine::Refused => Err(LefError::Refused {
             line: word.line,

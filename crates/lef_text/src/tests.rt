@@ -6,7 +6,7 @@ use std::alloc::Global;
 use std::test::Fail;
 
 /// Two routing layers, a cut layer and a via.
-const SMALL: &[u8] = b"VERSION 5.8 ;
+pub const SMALL: &[u8] = b"VERSION 5.8 ;
 UNITS
   DATABASE MICRONS 1000 ;
 END UNITS
@@ -105,13 +105,12 @@ fn fault_of(error: &LefError) -> (&'static str, u32) {
         LefError::OddWidth { .. } => ("odd-width", 0),
         LefError::Refused { line, .. } => ("refused", *line),
         LefError::Unended { line } => ("unended", *line),
-        LefError::NotYet { line } => ("not-yet", *line),
         LefError::Memory => ("memory", 0),
     }
 }
 
 /// What reading a text under 1000 units answers.
-fn answer(alloc: Global, text: &[u8]) -> (&'static str, u32) {
+pub fn answer(alloc: Global, text: &[u8]) -> (&'static str, u32) {
     if text.len() > 4096 {
         return ("long", 0);
     }

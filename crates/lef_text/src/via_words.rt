@@ -4,6 +4,17 @@ ghost use Rattle.lef_text.specs.Words.{via_line_of};
 
 use rt_words::statement;
 
+/// What a line of the generated form is by its first word.
+#[derive(Clone, Copy, Debug, PartialEq, Eq)]
+pub enum FormLine {
+    Rule,
+    CutSize,
+    Layers,
+    CutSpacing,
+    Enclosure,
+    RowCol,
+}
+
 /// What a line of a via is by its first word.
 #[derive(Clone, Copy, Debug, PartialEq, Eq)]
 pub enum ViaLine {
@@ -11,12 +22,7 @@ pub enum ViaLine {
     Rect,
     Polygon,
     Unused,
-    Rule,
-    CutSize,
-    Layers,
-    CutSpacing,
-    Enclosure,
-    RowCol,
+    Form(FormLine),
     Refused,
     End,
     Unknown,
@@ -86,12 +92,12 @@ pub fn via_line_of(word: &[u8]) -> ViaLine
         RECT => ViaLine::Rect,
         POLYGON => ViaLine::Polygon,
         RESISTANCE | PROPERTY | FOREIGN => ViaLine::Unused,
-        VIARULE => ViaLine::Rule,
-        CUTSIZE => ViaLine::CutSize,
-        LAYERS => ViaLine::Layers,
-        CUTSPACING => ViaLine::CutSpacing,
-        ENCLOSURE => ViaLine::Enclosure,
-        ROWCOL => ViaLine::RowCol,
+        VIARULE => ViaLine::Form(FormLine::Rule),
+        CUTSIZE => ViaLine::Form(FormLine::CutSize),
+        LAYERS => ViaLine::Form(FormLine::Layers),
+        CUTSPACING => ViaLine::Form(FormLine::CutSpacing),
+        ENCLOSURE => ViaLine::Form(FormLine::Enclosure),
+        ROWCOL => ViaLine::Form(FormLine::RowCol),
         MASK | ORIGIN | OFFSET | PATTERN => ViaLine::Refused,
         END => ViaLine::End,
         _ => ViaLine::Unknown,

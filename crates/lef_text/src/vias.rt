@@ -1,69 +1,22 @@
 //! VIA.
-ghost use Rattle.std.specs.Prelude.{◌≡◌, ◌++◌, ◌∷◌, [], IfOk, IfErr, OnOk};
+ghost use Rattle.std.specs.Prelude.{◌≡◌, ◌++◌, ◌∷◌, [], IfOk};
 ghost use Rattle.rt_forms.specs.Clauses.{Reads, Looks};
 ghost use Rattle.rt_forms.specs.Form.{one, loop, More, turn};
 ghost use Rattle.rt_forms.specs.Word.{place_of};
-ghost use Rattle.lef_text.specs.declared.error.LefError.TheVariants.{Memory as OutOfMemory};
 ghost use Rattle.lef_text.specs.Faults.{lef_faults};
 ghost use Rattle.lef_text.specs.IsLef.{is_path_word};
-ghost use Rattle.lef_text.specs.Vias.{layer_number as layer_number_form, layer_word as layer_word_form, with_shape, via_line as via_line_form, via_name as via_name_form, optional as optional_form, via_statement as via_statement_form};
+ghost use Rattle.lef_text.specs.Vias.{via_line as via_line_form, no_via_lines, via_rects as via_rects_form, via_name as via_name_form, optional as optional_form, via_statement as via_statement_form};
 
 use crate::error::LefError;
+use crate::generated_vias::{form_line, is_begun, lacks_a_line, no_form_lines, rects_at_end};
 use crate::library::{Library, ViaLines};
 use crate::numbers::{Words, rectangle};
+use crate::on_layers::{add_shape, add_shapes, layer_word};
+use crate::polygons::polygon;
 use crate::via_words::{ViaLine, via_line_of};
 use rt_base::{LayerNo, Name, Rect, Seq, Via};
 use rt_forms::{Names, Word};
 use std::alloc::Global;
-
-/// The number of a layer by its name, `Some(None)` where it is dropped.
-fn layer_number(lib: &Library, name: &[u8]) -> Option<Option<LayerNo>>
-    ensures { result ≡ layer_number_form lib.now.layer_names lib.now.numbers name.now }
-{
-    match lib.layer_names.find(name) {
-        None => None,
-        Some(k) => lib.numbers.as_slice().get(k).copied(),
-    }
-}
-
-/// Takes the name of a layer before.
-pub fn layer_word(
-    alloc: Global,
-    words: &mut Words,
-    lib: &Library,
-) -> Result<Option<LayerNo>, LefError>
-    ensures { Reads lef_faults (λ x. x) result words.old words.new (one (layer_word_form lib.now)) }
-{
-    let name = words.next()?;
-    if !name.is_name() {
-        return Err(LefError::Expected { line: name.line });
-    }
-    match layer_number(lib, name.bytes) {
-        Some(layer) => Ok(layer),
-        None => Err(LefError::NoLayer {
-            line: name.line,
-            name: Name::new(alloc, name.bytes)?,
-        }),
-    }
-}
-
-/// Adds a shape, unless its layer is dropped.
-pub fn add_shape(
-    shapes: &mut Seq<(LayerNo, Rect)>,
-    layer: Option<LayerNo>,
-    rect: Rect,
-) -> Result<(), LefError>
-    ensures ok { OnOk result (shapes.new ≡ with_shape shapes.old layer rect) }
-    ensures err { IfErr result (λ e. e ≡ OutOfMemory) }
-{
-    match layer {
-        None => Ok(()),
-        Some(layer) => {
-            shapes.push((layer, rect))?;
-            Ok(())
-        }
-    }
-}
 
 /// A line of a via. True where it was the last.
 #[tactic(auto, unfolding(crate::specs::Vias::via_line))]
@@ -80,6 +33,9 @@ fn via_line(
     let word = words.next()?;
     match via_line_of(word.bytes) {
         ViaLine::Layer => {
+            if is_begun(&lines.form) {
+                return Err(LefError::Unknown { line: word.line });
+            }
             lines.layer = Some(layer_word(alloc, words, lib)?);
             words.semicolon()?;
             Ok(false)
@@ -101,21 +57,26 @@ fn via_line(
             word: Name::new(alloc, word.bytes)?,
         }),
         ViaLine::End => {
+            if lacks_a_line(&lines.form) {
+                return Err(LefError::Unknown { line: word.line });
+            }
             words.expect(name)?;
             Ok(true)
         }
         ViaLine::Unknown => Err(LefError::Unknown { line: word.line }),
         ViaLine::Polygon => match lines.layer {
             None => Err(LefError::Unknown { line: word.line }),
-            Some(_) => Err(LefError::NotYet { line: word.line }),
+            Some(layer) => {
+                let rects = polygon(alloc, words, units, false, word)?;
+                add_shapes(&mut lines.rects, layer, rects.as_slice())?;
+                Ok(false)
+            }
         },
-        ViaLine::Rule
-        | ViaLine::CutSize
-        | ViaLine::Layers
-        | ViaLine::CutSpacing
-        | ViaLine::Enclosure
-        | ViaLine::RowCol => match lines.layer {
-            None => Err(LefError::NotYet { line: word.line }),
+        ViaLine::Form(line) => match lines.layer {
+            None => {
+                form_line(alloc, words, units, lib, &mut lines.form, word, line)?;
+                Ok(false)
+            }
             Some(_) => Err(LefError::Unknown { line: word.line }),
         },
     }
@@ -134,6 +95,34 @@ fn via_lines(
 {
     'lines: while !via_line(alloc, words, units, lib, name, lines)? {}
     Ok(())
+}
+
+/// No line of a via.
+fn no_via_lines(alloc: Global) -> ViaLines
+    ensures { result ≡ no_via_lines }
+{
+    ViaLines {
+        layer: None,
+        rects: Seq::new(alloc),
+        form: no_form_lines(),
+    }
+}
+
+/// The rectangles of a via behind its name.
+#[tactic(auto, unfolding(crate::specs::Vias::via_rects))]
+fn via_rects(
+    alloc: Global,
+    words: &mut Words,
+    units: u32,
+    lib: &Library,
+    name: &[u8],
+) -> Result<Seq<(LayerNo, Rect)>, LefError>
+    ensures { Reads lef_faults (λ x. x) result words.old words.new (via_rects_form units lib.now name.now) }
+{
+    let mut lines = no_via_lines(alloc);
+    via_lines(alloc, words, units, lib, name, &mut lines)?;
+    let form = lines.form;
+    rects_at_end(alloc, &form, lines.rects)
 }
 
 fn is_path_word(word: Word) -> bool
@@ -200,15 +189,11 @@ pub fn via_statement(
     let name = via_name(alloc, words, &mut lib.via_names)?;
     let usable = optional(words, b"DEFAULT")?;
     optional(words, b"TOPOFSTACKONLY")?;
-    let mut lines = ViaLines {
-        layer: None,
-        rects: Seq::new(alloc),
-    };
-    via_lines(alloc, words, units, lib, name.bytes, &mut lines)?;
+    let rects = via_rects(alloc, words, units, lib, name.bytes)?;
     lib.vias.push(Via {
         name: Name::new(alloc, name.bytes)?,
         usable,
-        rects: lines.rects,
+        rects,
     })?;
     Ok(())
 }

@@ -69,7 +69,6 @@ lef_text (lef.SameDirection lower upper) = with_names (codes "same-direction") l
 lef_text (lef.OddWidth name) = with_name (codes "odd-width") name
 lef_text (lef.Refused line word) = with_number_name (codes "refused") line word
 lef_text (lef.Unended line) = with_number (codes "unended") line
-lef_text (lef.NotYet line) = with_number (codes "not-yet") line
 lef_text lef.Memory = codes "memory"
 
 abbrev pub def_text : DefError → List ℕ

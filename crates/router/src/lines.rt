@@ -138,7 +138,6 @@ fn lef_text(text: &mut Text, error: &LefError) -> Result<(), Memory>
         LefError::OddWidth { name } => with_name(text, b"odd-width", name.bytes()),
         LefError::Refused { line, word } => with_number_name(text, b"refused", *line, word.bytes()),
         LefError::Unended { line } => with_number(text, b"unended", u64::from(*line)),
-        LefError::NotYet { line } => with_number(text, b"not-yet", u64::from(*line)),
         LefError::Memory => text.bytes(b"memory"),
     }
 }
