@@ -1,4 +1,8 @@
 pub mod Placing
+pub mod Words
+pub mod Items
+pub mod Ranges
+pub mod SpecialRanges
 pub mod Listing
 pub mod Grammar
 pub mod Closes

@@ -1,13 +1,14 @@
 -- One more item of a section.
 use Rattle.def_text.specs.Nets.{AreFew}
-use Rattle.std.proofs.Common.{◌≡◌, ◌≢◌, ◌++◌, ◌<◌, ℕ, zero, suc, false, List, [], ◌∷◌, length, get_or, map, bytes_eq, All, ap, sym, ◌∙◌, arith, inl, inr, refl, ◌+◌, take, append_assoc}
+use Rattle.std.proofs.Common.{◌≡◌, ◌≢◌, ◌++◌, ◌<◌, ℕ, zero, suc, false, List, [], ◌∷◌, length, get_or, map, bytes_eq, All, ap, sym, ◌∙◌, arith, inl, inr, refl, ◌+◌, take, append_assoc, lit<}
 use Rattle.std.specs.List.{list_any}
 use Rattle.std.proofs.lemmas.Bool.{cases_Bool, both_ways}
 use Rattle.std.proofs.lemmas.List.{map-append, length-append, take_more}
 use Rattle.std.proofs.lemmas.List.Elements.{All-append, All-cons}
 use Rattle.std.proofs.lemmas.List.Quantifiers.{all_pairs_push}
 use Rattle.rt_words.proofs.Words.{differ}
-use Rattle.def_text.specs.Defs.{IsConnection, Metal}
+use Rattle.def_text.specs.Defs.{IsName, IsRange, IsConnection}
+use Rattle.def_text.specs.Wiring.{IsNetOf}
 use Rattle.def_text.specs.declared.sections.Listed.{Listed}
 use Rattle.def_text.specs.Sections.{AreListed}
 
@@ -40,14 +41,21 @@ listed_more P name l w x k h fresh one e =
 pub few_more : (pins : List (List ℕ × List ℕ)) (pin : List ℕ × List ℕ) (n : ℕ) → AreFew pins → n ≡ length pins → n < 2 → IsConnection pin → AreFew (pins ++ pin ∷ [])
 few_more pins pin n few e lt one = record { all = All-one IsConnection pins pin few.all one; few = omega (arith, length-append pins (pin ∷ [])) }
 
--- one more rectangle was placed
-pub placed_more : (f : Metal → Metal) (before rects new metal : List Metal) (i : ℕ) (m x : Metal) → new ≡ rects ++ x ∷ [] → rects ≡ before ++ map f (take i metal) → x ≡ f m → m ≡ get_or metal i m → i < length metal
+-- the value of one more item was added
+pub mapped_more : {A B : Type 0} (f : A → B) (before rects new : List B) (metal : List A) (i : ℕ) (m : A) (x : B) → new ≡ rects ++ x ∷ [] → rects ≡ before ++ map f (take i metal) → x ≡ f m → m ≡ get_or metal i m → i < length metal
     → new ≡ before ++ map f (take (i + 1) metal)
-placed_more f before rects new metal i m x h r e g lt =
+mapped_more {A} {B} f before rects new metal i m x h r e g lt =
     h
-    ∙ ap (λ (v : List Metal). v ++ x ∷ []) r
+    ∙ ap (λ (v : List B). v ++ x ∷ []) r
     ∙ append_assoc before (map f (take i metal)) (x ∷ [])
-    ∙ ap (λ (v : List Metal). before ++ v) (ap (λ (v : Metal). map f (take i metal) ++ v ∷ []) (e ∙ ap f g) ∙ sym (map-append f (take i metal) (get_or metal i m ∷ [])) ∙ ap (map f) (sym (take_more metal i m lt)))
+    ∙ ap (λ (v : List B). before ++ v) (ap (λ (v : B). map f (take i metal) ++ v ∷ []) (e ∙ ap f g) ∙ sym (map-append f (take i metal) (get_or metal i m ∷ [])) ∙ ap (map f) (sym (take_more metal i m lt)))
+
+-- a net without connections
+pub net_without_pins : (total : ℕ) (name : List ℕ) (pins : List (List ℕ × List ℕ)) (wiring : List (ℕ × ℕ)) (close : ℕ) → IsName name → pins ≡ [] → All (IsRange total) wiring → IsNetOf total (record { name = name; pins = pins; wiring = wiring; close = close })
+net_without_pins total name pins wiring close named none ranges = record {
+  net = record { name = named; pins = rw none (λ k d lt. absurd (omega arith)); pin_count = rw none (lit< tt) };
+  wiring = ranges;
+}
 
 -- no items yet
 pub listed_none : {A : Type 0} (P : A → Type 0) (name : A → List ℕ) (l : Listed A) → l.names ≡ [] → l.items ≡ [] → AreListed P name l

@@ -8,7 +8,7 @@ use Rattle.rt_forms.proofs.Laws.{ok_is}
 use Rattle.rt_forms.specs.Lexeme.{Lexeme, End, Place, put, places, last_line}
 use Rattle.rt_forms.specs.Form.{Form, next, check, done, ◌>>=◌, loop, nothing, More}
 use Rattle.rt_forms.specs.Clauses.{IsText}
-use Rattle.rt_forms.specs.Reading.{a_name, the_word, semicolon}
+use Rattle.rt_forms.specs.Reading.{a_name, the_word, semicolon, left}
 use Rattle.def_text.specs.declared.error.DefError.{DefError}
 use Rattle.def_text.specs.declared.def.Def.{Def}
 use Rattle.def_text.specs.declared.def.DefNet.{DefNet}
@@ -17,9 +17,9 @@ use Rattle.def_text.specs.declared.sections.Listed.{Listed}
 use Rattle.def_text.specs.declared.statements.Parsed.{Parsed}
 use Rattle.def_text.specs.Defs.{AreCloses}
 use Rattle.def_text.specs.Sections.{new_name, said_count, section_end, more_items}
-use Rattle.def_text.specs.Parts.{a_count, once}
+use Rattle.def_text.specs.Parts.{a_count, once, here}
 use Rattle.def_text.specs.Nets.{joined_by_must, connections, net_option, more_net, net_item}
-use Rattle.def_text.specs.Texts.{nothing_read, or_none, units_statement, nets_section, statement, finished_of, finished, a_def, def_form}
+use Rattle.def_text.specs.Texts.{nothing_read, or_none, units_statement, nets_section, statement, finished_of, finished, built, a_def, def_form}
 use Rattle.def_text.proofs.Listing.{All-one}
 use Rattle.def_text.proofs.Staying.{Stays, step, statement_stays}
 use Rattle.def_text.proofs.Closes.{AreFrom, Ascend, cut_ascends, from_rest, ascend_rest, Leads, Lasts, ByTurn, leads_bind, leads_any, leads_check, leads_done, leads_not, leads_choose, leads_loop}
@@ -64,13 +64,14 @@ next_closing size nets = record {
 closing_closed : {A : Type 0} (size : ℕ) (nets : List DefNet) (place : ℕ) (F : Form DefError A) → Leads (Closing size nets place) F (λ a. Closed size nets)
 closing_closed size nets place F = record { to = λ front rest a h p. closed_rest size nets front rest p.closed }
 
-more_net_leads : (size : ℕ) (nets : List DefNet) (net : OpenNet) → Leads (Closed size nets) (more_net net) (ByTurn (λ u. Closed size nets) (λ t ws. Closing size nets t.close ws))
+more_net_leads : (size total : ℕ) (nets : List DefNet) (net : OpenNet) → Leads (Closed size nets) (more_net total net) (ByTurn (λ u. Closed size nets) (λ t ws. Closing size nets t.close ws))
 unfolding more_net
-more_net_leads size nets net =
+more_net_leads size total nets net =
+    leads_bind (Closed size nets) (here total) (λ a. Closed size nets) _ _ (leads_any _ _ (closed_lasts size nets)) (λ at.
     leads_bind (Closed size nets) next (λ w ws. Closing size nets w.first ws) _ _ (next_closing size nets) (λ w.
     leads_choose _ _ _ _ _ (leads_done _ _ _ (λ ws p. p))
-    (leads_choose _ _ _ _ _ (leads_bind _ (net_option w net) (λ a. Closed size nets) _ _ (closing_closed size nets w.first (net_option w net)) (λ t. leads_done _ _ _ (λ ws p. p)))
-    (leads_not _ _ _)))
+    (leads_choose _ _ _ _ _ (leads_bind _ (net_option total at net) (λ a. Closed size nets) _ _ (closing_closed size nets w.first (net_option total at net)) (λ t. leads_done _ _ _ (λ ws p. p)))
+    (leads_not _ _ _))))
 
 one_more : (size : ℕ) (nets : List DefNet) (n : DefNet) (ws : List Lexeme) → Closing size nets n.close ws → Closed size (nets ++ n ∷ []) ws
 one_more size nets n ws h = record {
@@ -80,25 +81,25 @@ one_more size nets n ws h = record {
   words = h.closed.words;
 }
 
-net_item_leads : (size : ℕ) (l : Listed DefNet) → Leads (Closed size l.items) (net_item l) (λ m. Closed size m.items)
+net_item_leads : (size total : ℕ) (l : Listed DefNet) → Leads (Closed size l.items) (net_item total l) (λ m. Closed size m.items)
 unfolding net_item
-net_item_leads size l =
+net_item_leads size total l =
     let keeps = closed_lasts size l.items in
     leads_bind (Closed size l.items) a_name (λ a. Closed size l.items) _ _ (leads_any _ _ keeps) (λ name.
     leads_bind (Closed size l.items) (check (joined_by_must name)) (λ a. Closed size l.items) _ _ (leads_any _ _ keeps) (λ _.
     leads_bind (Closed size l.items) (check (new_name l.names name)) (λ a. Closed size l.items) _ _ (leads_any _ _ keeps) (λ _.
     leads_bind (Closed size l.items) connections (λ a. Closed size l.items) _ _ (leads_any _ _ keeps) (λ pins.
-    leads_bind (Closed size l.items) (loop more_net _) (λ t ws. Closing size l.items t.close ws) _ _ (leads_loop (λ u. Closed size l.items) (λ t ws. Closing size l.items t.close ws) more_net (more_net_leads size l.items) _) (λ net.
+    leads_bind (Closed size l.items) (loop (more_net total) _) (λ t ws. Closing size l.items t.close ws) _ _ (leads_loop (λ u. Closed size l.items) (λ t ws. Closing size l.items t.close ws) (more_net total) (more_net_leads size total l.items) _) (λ net.
     leads_done _ _ _ (λ ws p. one_more size l.items (record { name = name.word; pins = pins; wiring = net.wiring; close = net.close }) ws p))))))
 
 abbrev ClosedBefore : ℕ → Listed DefNet → List Lexeme → Type 0
 ClosedBefore size l ws = Closed size l.items ws
 
-more_nets_leads : (size said : ℕ) (l : Listed DefNet) → Leads (ClosedBefore size l) (more_items (codes "NETS") said net_item l) (ByTurn (ClosedBefore size) (ClosedBefore size))
+more_nets_leads : (size total said : ℕ) (l : Listed DefNet) → Leads (ClosedBefore size l) (more_items (codes "NETS") said (net_item total) l) (ByTurn (ClosedBefore size) (ClosedBefore size))
 unfolding more_items
-more_nets_leads size said l =
+more_nets_leads size total said l =
     leads_bind (ClosedBefore size l) next (λ w. ClosedBefore size l) _ _ (leads_any _ _ (closed_lasts size l.items)) (λ w.
-    leads_choose _ _ _ _ _ (leads_bind _ (net_item l) (λ m. ClosedBefore size m) _ _ (net_item_leads size l) (λ m. leads_done _ _ _ (λ ws p. p)))
+    leads_choose _ _ _ _ _ (leads_bind _ (net_item total l) (λ m. ClosedBefore size m) _ _ (net_item_leads size total l) (λ m. leads_done _ _ _ (λ ws p. p)))
     (leads_choose _ _ _ _ _ (leads_bind _ (section_end _ _ _) (λ a. ClosedBefore size l) _ _ (leads_any _ _ (closed_lasts size l.items)) (λ _. leads_done _ _ _ (λ ws p. p)))
     (leads_not _ _ _)))
 
@@ -137,8 +138,8 @@ unfolding nets_section
 nets_leads size w s =
     step (Read size) (read_lasts size) s (check (once s.nets w)) _ _ (λ a.
     step (Read size) (read_lasts size) s said_count _ _ (λ said.
-    leads_bind (Read size s) (loop (more_items (codes "NETS") said net_item) (record { names = []; items = []; skipped = s.skipped })) (ClosedBefore size) _ _
-    (pre _ (Read size s) _ _ (λ ws p. begins_closed size s (record { names = []; items = []; skipped = s.skipped }) ws refl p) (leads_loop (ClosedBefore size) (ClosedBefore size) (more_items (codes "NETS") said net_item) (more_nets_leads size said) (record { names = []; items = []; skipped = s.skipped })))
+    leads_bind (Read size s) (loop (more_items (codes "NETS") said (net_item s.total)) (record { names = []; items = []; skipped = s.skipped })) (ClosedBefore size) _ _
+    (pre _ (Read size s) _ _ (λ ws p. begins_closed size s (record { names = []; items = []; skipped = s.skipped }) ws refl p) (leads_loop (ClosedBefore size) (ClosedBefore size) (more_items (codes "NETS") said (net_item s.total)) (more_nets_leads size s.total said) (record { names = []; items = []; skipped = s.skipped })))
     (λ l. leads_done _ (More (record s { nets = Some l.items; skipped = l.skipped })) _ (λ ws p. record { closes = record { ascending = p.ascending; within = p.within }; words = p.words }))))
 
 read_stays : (size : ℕ) → Stays (Read size)
@@ -159,23 +160,29 @@ finished_nets s d h = go s.units s.die h
     go (Some u) None q = absurd cc
     go (Some u) (Some sides) q = sym (ap (λ (x : Def). x.nets) (ok_is {E = DefError} _ d q))
 
-a_def_leads : (size : ℕ) → Leads (Read size nothing_read) a_def (λ d ws. AreCloses size d.nets)
-unfolding a_def
-a_def_leads size =
-    leads_bind (Read size nothing_read) (loop statement nothing_read) (Read size) _ _ (leads_loop (Read size) (Read size) statement (statement_stays (Read size) (read_stays size)) nothing_read) (λ s.
-    leads_check (Read size s) (finished s) (λ d ws. AreCloses size d.nets) (λ d ws e p. subst (AreCloses size) (sym (finished_nets s d e)) p.closes))
-
 nothing_closed : (size : ℕ) → AreCloses size []
 nothing_closed size = record { ascending = λ i j d lt within. absurd (omega arith); within = λ i d lt. absurd (omega arith) }
 
-def_leads : (size : ℕ) → Leads (Read size nothing_read) def_form (λ d ws. AreCloses size d.nets)
+begins_read : (size total : ℕ) (ws : List Lexeme) → Ascend size ws → Read size (nothing_read total) ws
+begins_read size total ws h = record { closes = nothing_closed size; words = h }
+
+a_def_leads : (size : ℕ) → Leads (Ascend size) a_def (λ d ws. AreCloses size d.nets)
+unfolding a_def
+a_def_leads size =
+    leads_bind (Ascend size) left (λ n. Ascend size) _ _ (leads_any _ _ (record { rest = λ front rest p. ascend_rest size front rest p })) (λ total.
+    leads_bind (Ascend size) (loop statement (nothing_read total)) (Read size) _ _ (pre _ _ _ _ (begins_read size total) (leads_loop (Read size) (Read size) statement (statement_stays (Read size) (read_stays size)) (nothing_read total))) (λ s.
+    leads_bind (Read size s) (check (finished s)) (λ d ws. AreCloses size d.nets) _ _ (leads_check (Read size s) (finished s) (λ d ws. AreCloses size d.nets) (λ d ws e p. subst (AreCloses size) (sym (finished_nets s d e)) p.closes)) (λ d.
+    leads_bind (λ ws. AreCloses size d.nets) (check (built s.end d)) (λ x ws. AreCloses size d.nets) _ _ (leads_any _ _ (record { rest = λ front rest p. p })) (λ x.
+    leads_done (λ ws. AreCloses size d.nets) d (λ e ws. AreCloses size e.nets) (λ ws p. p)))))
+
+def_leads : (size : ℕ) → Leads (Ascend size) def_form (λ d ws. AreCloses size d.nets)
 def_leads size =
-    leads_bind (Read size nothing_read) a_def (λ d ws. AreCloses size d.nets) (λ d. nothing >>= λ x. done d) _ (a_def_leads size) (λ d.
+    leads_bind (Ascend size) a_def (λ d ws. AreCloses size d.nets) (λ d. nothing >>= λ x. done d) _ (a_def_leads size) (λ d.
     leads_bind (λ ws. AreCloses size d.nets) nothing (λ x ws. AreCloses size d.nets) (λ x. done d) _ (leads_any _ _ (record { rest = λ front rest p. p })) (λ x.
     leads_done (λ ws. AreCloses size d.nets) d (λ e ws. AreCloses size e.nets) (λ ws p. p)))
 
 def_closes : (text : List ℕ) (tokens : List Token) (d : Def) → IsCutInto text tokens → IsText def_form text tokens d → AreCloses (length text) d.nets
-def_closes text tokens d cut h = (def_leads (length text)).to (places text tokens) (End (last_line tokens) ∷ []) d h (record { closes = nothing_closed (length text); words = cut_ascends text tokens cut })
+def_closes text tokens d cut h = (def_leads (length text)).to (places text tokens) (End (last_line tokens) ∷ []) d h (cut_ascends text tokens cut)
 
 pub result_closes : (text : List ℕ) (tokens : List Token) (r : Result Def DefError) → IsCutInto text tokens → IfOk r (λ d. IsText def_form text tokens d) → IfOk r (λ d. AreCloses (length text) d.nets)
 result_closes text tokens (Ok d) cut h = def_closes text tokens d cut h

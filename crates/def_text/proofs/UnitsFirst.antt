@@ -4,6 +4,7 @@ use Rattle.rt_base.specs.declared.token.Token.{Token}
 use Rattle.rt_base.specs.Sides.{Sides}
 use Rattle.rt_forms.specs.Lexeme.{Lexeme, End, Place, places, last_line, lexemes}
 use Rattle.rt_forms.specs.Form.{Read, check, loop, nothing_of, and_then, with_rest, Turn, More, Done, turns, after_turn, loop_of}
+use Rattle.rt_forms.specs.Reading.{left_of}
 use Rattle.rt_forms.specs.Clauses.{IsText, IsRefused}
 use Rattle.rt_forms.proofs.Laws.{bind_ok, ok_is}
 use Rattle.def_text.specs.Faults.{def_faults}
@@ -15,7 +16,7 @@ use Rattle.def_text.specs.Clauses.{Begins}
 use Rattle.def_text.specs.Parts.{once}
 use Rattle.def_text.specs.Sections.{said_count, more_items}
 use Rattle.def_text.specs.Nets.{net_item}
-use Rattle.def_text.specs.Texts.{nothing_read, units_statement, nets_section, statement, finished_of, finished, a_def, def_form, stop_where, stop_at_units, until_units, units_form, units_or_missing}
+use Rattle.def_text.specs.Texts.{nothing_read, units_statement, nets_section, statement, finished_of, finished, built, a_def, def_form, stop_where, stop_at_units, until_units, units_form, units_or_missing}
 use Rattle.def_text.proofs.Closes.{Leads, Lasts, ByTurn, leads_bind, leads_check, leads_done}
 use Rattle.def_text.proofs.Staying.{step, statement_stays}
 use Rattle.def_text.proofs.Grammar.{lawful_def, lawful_units, lawful_statement}
@@ -44,7 +45,7 @@ unfolding nets_section
 nets_keep n w s =
     step (Has n) (has_lasts n) s (check (once s.nets w)) _ _ (λ a.
     step (Has n) (has_lasts n) s said_count _ _ (λ said.
-    step (Has n) (has_lasts n) s (loop (more_items (codes "NETS") said net_item) (record { names = []; items = []; skipped = s.skipped })) _ _ (λ l.
+    step (Has n) (has_lasts n) s (loop (more_items (codes "NETS") said (net_item s.total)) (record { names = []; items = []; skipped = s.skipped })) _ _ (λ l.
     leads_done (Has n s) (More (record s { nets = Some l.items; skipped = l.skipped })) (Keeps n) (λ ws p. p))))
 
 statement_keeps : (n : ℕ) (s : Parsed) → Leads (Has n s) (statement s) (Keeps n)
@@ -176,9 +177,12 @@ missing (Some n) s ws e k h = absurd cc
 units_read : (ws rest : List Lexeme) (d : Def) → a_def.read def_faults ws ≡ Ok (d, rest) → (back : List Lexeme) × (units_form.read def_faults ws ≡ Ok (d.units, back))
 unfolding a_def units_form
 units_read ws rest d h =
-    let z = bind_ok (loop_of def_faults statement nothing_read ws) _ (d, rest) h in
-    let b = before (suc (length ws)) nothing_read z.0.0 ws z.0.1 z.1 in
-    let u = b.same ∙ finished_units z.0.0 d (ok_rest (finished z.0.0) z.0.1 rest d z.2) in
+    let z = bind_ok (loop_of def_faults statement (nothing_read (left_of ws)) ws) _ (d, rest) h in
+    let b = before (suc (length ws)) (nothing_read (left_of ws)) z.0.0 ws z.0.1 z.1 in
+    let y = bind_ok (with_rest z.0.1 (finished z.0.0)) _ (d, rest) z.2 in
+    let x = bind_ok (with_rest y.0.1 (built z.0.0.end y.0.0)) _ (d, rest) y.2 in
+    let same : y.0.0 ≡ d = ap (λ (p : Def × List Lexeme). p.0) (ok_is {E = DefError} (y.0.0, x.0.1) (d, rest) x.2) in
+    let u = b.same ∙ finished_units z.0.0 y.0.0 (ok_rest (finished z.0.0) z.0.1 y.0.1 y.0.0 y.1) ∙ ap (λ (v : Def). Some v.units) same in
     (b.rest, rw (b.read, u) refl)
 
 -- a text that is read is one whose units are read
@@ -195,11 +199,11 @@ units_of_def text tokens d h =
 def_fails : (ws : List Lexeme) (e : DefError) → units_form.read def_faults ws ≡ Err e → a_def.read def_faults ws ≡ Err e
 unfolding a_def units_form
 def_fails ws e h =
-    err_or (loop_of def_faults until_units nothing_read ws) _ e (a_def.read def_faults ws ≡ Err e) h
-    (λ k. rw (fails (suc (length ws)) nothing_read ws e k) refl)
+    err_or (loop_of def_faults until_units (nothing_read (left_of ws)) ws) _ e (a_def.read def_faults ws ≡ Err e) h
+    (λ k. rw (fails (suc (length ws)) (nothing_read (left_of ws)) ws e k) refl)
     (λ x k g.
     let m = missing x.0.units x.0 x.1 e refl g in
-    rw (ends (suc (length ws)) nothing_read x.0 ws x.1 k m.0, m.0) (ap (λ (d : DefError). Err d) m.1))
+    rw (ends (suc (length ws)) (nothing_read (left_of ws)) x.0 ws x.1 k m.0, m.0) (ap (λ (d : DefError). Err d) m.1))
 
 -- what refuses the beginning refuses the text
 pub units_refused : (text : List ℕ) (tokens : List Token) (e : DefError) → IsRefused def_faults units_form text tokens e → IsRefused def_faults def_form text tokens e

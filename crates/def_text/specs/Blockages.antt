@@ -1,11 +1,11 @@
 -- BLOCKAGES (DEF 5.8, Blockages).
-use Rattle.std.specs.Prelude.{ℕ, ◌+◌, List, [], ◌∷◌, ◌++◌, Bool, true, false, Err, Option, Some, None, bytes_eq, codes, not, ◌||◌, if◌then◌else◌}
+use Rattle.std.specs.Prelude.{ℕ, ◌+◌, List, [], ◌∷◌, ◌++◌, Bool, true, false, Err, Option, Some, None, bytes_eq, codes, map, not, ◌||◌, if◌then◌else◌}
 use Rattle.rt_base.specs.Geometry.{hull_of}
 use Rattle.rt_forms.specs.Lexeme.{Place}
 use Rattle.rt_forms.specs.Form.{Form, next, look, check, done, ◌>>=◌, choose, loop, unless, Turn, More, Done}
 use Rattle.rt_forms.specs.Reading.{a_name, is_next, or_end, rest}
 use Rattle.def_text.specs.declared.error.DefError.{DefError}
-use Rattle.def_text.specs.declared.error.DefError.TheVariants.{Expected, NotYet}
+use Rattle.def_text.specs.declared.error.DefError.TheVariants.{Expected}
 use Rattle.def_text.specs.declared.blockages.BlockageOption.{BlockageOption}
 use Rattle.def_text.specs.declared.blockages.BlockageOption.TheVariants.{Drops, Rule, Unused}
 use Rattle.def_text.specs.declared.blockages.Marks.{Marks}
@@ -13,6 +13,8 @@ use Rattle.def_text.specs.declared.blockages.Blocked.{Blocked}
 use Rattle.def_text.specs.Defs.{Metal}
 use Rattle.def_text.specs.Parts.{a_number, point}
 use Rattle.def_text.specs.Sections.{section_end}
+use Rattle.def_text.specs.Polygons.{polygon}
+use Rattle.rt_shapes.specs.Polygons.{slabs_of}
 
 abbrev pub blockage_option_of : Option Place → BlockageOption
 blockage_option_of None = Unused
@@ -59,19 +61,25 @@ more_marks marks = do
 abbrev pub no_mark : Option Place → Bool
 no_mark w = not (is_next (codes "+") w)
 
--- a rectangle of an item, which SLOTS or FILLS drops
-abbrev pub kept_metal : Bool → Metal → List Metal
-kept_metal true m = []
-kept_metal false m = m ∷ []
+-- rectangles of an item, which SLOTS or FILLS drops
+abbrev pub kept : Bool → List Metal → List Metal
+kept true metal = []
+kept false metal = metal
 
--- `RECT point point`; polygons aren't built yet
+-- points behind their word
+unfoldable pub blockage_polygon : List ℕ → Bool → Place → List Metal → Form DefError (List Metal)
+blockage_polygon layer dropped w metal = do
+  points ← polygon w
+  done (metal ++ kept dropped (map (λ sides. (layer, sides)) (slabs_of points)))
+
+-- `RECT point point` or `POLYGON` points
 unfoldable pub blockage_shape : List ℕ → Bool → Place → List Metal → Form DefError (List Metal)
 blockage_shape layer dropped w metal =
     choose (bytes_eq w.word (codes "RECT")) (do
       p ← point
       q ← point
-      done (metal ++ kept_metal dropped (layer, hull_of p q))) (
-    choose (bytes_eq w.word (codes "POLYGON")) (check (Err (NotYet w.line))) (
+      done (metal ++ kept dropped ((layer, hull_of p q) ∷ []))) (
+    choose (bytes_eq w.word (codes "POLYGON")) (blockage_polygon layer dropped w metal) (
     check (Err (Expected w.line))))
 
 -- one more shape, or `;`

@@ -50,6 +50,10 @@ pub record IsDefNet (n : DefNet) : Type 0 where
   pub pins : All IsConnection n.pins
   pub pin_count : length n.pins < 2 ^ 32
 
+-- a range of tokens, of so many: the number of its first, and of the one past its last
+abbrev pub IsRange : ℕ → (ℕ × ℕ) → Type 0
+IsRange count r = (r.0 ≤ r.1) × (r.1 ≤ count)
+
 -- no two of these have one name
 abbrev pub AreNamedApart : {A : Type 0} → (A → List ℕ) → List A → Type 0
 AreNamedApart name items = AllPairs (λ a b. name a ≢ name b) items
@@ -71,6 +75,12 @@ pub record IsDef (d : Def) : Type 0 where
   pub nets : All IsDefNet d.nets
   pub net_names : AreNamedApart (λ (n : DefNet). n.name) d.nets
   pub net_count : length d.nets < 2 ^ 32
+
+-- the ranges of a text with so many tokens are ranges of them
+pub record AreRanges (count : ℕ) (d : Def) : Type 0 where
+  pub vias : All (λ (v : DefVia). IsRange count v.tokens) d.vias
+  pub special : All (λ (n : DefNet). All (IsRange count) n.wiring) d.special
+  pub nets : All (λ (n : DefNet). All (IsRange count) n.wiring) d.nets
 
 -- the closing `;` of nets stand one behind the other, in a text of this length
 pub record AreCloses (size : ℕ) (nets : List DefNet) : Type 0 where

@@ -2,10 +2,15 @@ pub mod Faults
 pub mod Defs
 pub mod Kinds
 pub mod Parts
+pub mod Wiring
+pub mod Polygons
 pub mod Tracks
 pub mod Sections
+pub mod Vias
+pub mod Components
 pub mod Pins
 pub mod Nets
+pub mod Special
 pub mod Texts
 pub mod Clauses
 pub mod Blockages

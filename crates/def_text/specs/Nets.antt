@@ -1,8 +1,8 @@
 -- NETS (DEF 5.8, Nets).
-use Rattle.std.specs.Prelude.{ℕ, ◌+◌, ◌≤◌, All, List, [], ◌∷◌, ◌++◌, length, Bool, true, false, Result, Ok, Err, Option, bytes_eq, codes, nat_le, not, if◌then◌else◌}
+use Rattle.std.specs.Prelude.{ℕ, ◌+◌, ◌≤◌, All, List, [], ◌∷◌, ◌++◌, length, Bool, true, false, Result, Ok, Err, bytes_eq, codes, nat_le, if◌then◌else◌}
 use Rattle.rt_forms.specs.Lexeme.{Place}
 use Rattle.rt_forms.specs.Form.{Form, next, one, look, check, done, ◌>>=◌, choose, loop, unless, Turn, More, Done}
-use Rattle.rt_forms.specs.Reading.{the_word, a_name, is_next, option_rest}
+use Rattle.rt_forms.specs.Reading.{the_word, a_name, option_rest}
 use Rattle.def_text.specs.declared.error.DefError.{DefError}
 use Rattle.def_text.specs.declared.error.DefError.TheVariants.{Expected, Refused, NotYet}
 use Rattle.def_text.specs.declared.kinds.NetOption.{NetOption}
@@ -12,6 +12,8 @@ use Rattle.def_text.specs.declared.nets.OpenNet.{OpenNet}
 use Rattle.def_text.specs.declared.sections.Listed.{Listed}
 use Rattle.def_text.specs.Defs.{IsConnection}
 use Rattle.def_text.specs.Kinds.{net_option_of}
+use Rattle.def_text.specs.Parts.{no_bracket, here}
+use Rattle.def_text.specs.Wiring.{wiring_range}
 use Rattle.def_text.specs.Sections.{new_name}
 
 -- MUSTJOIN isn't supported as a name
@@ -21,10 +23,6 @@ joined_by_must w = if bytes_eq w.word (codes "MUSTJOIN") then Err (Refused w.lin
 -- a third connection isn't built yet
 abbrev pub third : List (List ℕ × List ℕ) → Place → Result (Unit {0}) DefError
 third pins first = if nat_le 2 (length pins) then Err (NotYet first.line) else Ok tt
-
--- connections to pins of components aren't built yet
-abbrev pub io_alone : Place → Place → Result (Unit {0}) DefError
-io_alone first w = if bytes_eq w.word (codes "PIN") then Ok tt else Err (NotYet first.line)
 
 -- `)`, or `+` before SYNTHESIZED
 abbrev pub connection_end : Place → Result Bool DefError
@@ -41,13 +39,12 @@ connection_tail = do
     _ ← the_word (codes "SYNTHESIZED")
     the_word (codes ")")) (done tt)
 
--- `( PIN io [+ SYNTHESIZED] )`
+-- `( comp pin [+ SYNTHESIZED] )`, or `( PIN io [+ SYNTHESIZED] )`
 unfoldable pub connection : List (List ℕ × List ℕ) → Form DefError (Turn (List (List ℕ × List ℕ)))
 connection pins = do
   first ← next
   _ ← check (third pins first)
   of ← a_name
-  _ ← check (io_alone first of)
   pin ← a_name
   _ ← connection_tail
   done (More (pins ++ (of.word, pin.word) ∷ []))
@@ -57,50 +54,53 @@ pub record AreFew (pins : List (List ℕ × List ℕ)) : Type 0 where
   pub all : All IsConnection pins
   pub few : length pins ≤ 2
 
--- no further connection
-abbrev pub no_connection : Option Place → Bool
-no_connection w = not (is_next (codes "(") w)
-
 abbrev pub connections : Form DefError (List (List ℕ × List ℕ))
-connections = loop (unless no_connection connection) []
+connections = loop (unless no_bracket connection) []
 
--- an option behind its `+`
-abbrev pub net_option_by : NetOption → Place → OpenNet → Form DefError OpenNet
-net_option_by Wiring plus net = check (Err (NotYet plus.line))
-net_option_by Subnet plus net = do
+-- an option of wiring
+unfoldable pub net_wiring : ℕ → ℕ → OpenNet → Form DefError OpenNet
+net_wiring total plus net = do
+  range ← wiring_range total plus
+  done (record net { wiring = net.wiring ++ range ∷ [] })
+
+-- an option behind its `+`, which has this number, in a text of so many words
+abbrev pub net_option_by : NetOption → ℕ → ℕ → OpenNet → Form DefError OpenNet
+net_option_by Wiring total plus net = net_wiring total plus net
+net_option_by Subnet total plus net = do
   w ← next
   check (Err (Refused w.line w.word))
-net_option_by Rule plus net = do
+net_option_by Rule total plus net = do
   _ ← next
   _ ← a_name
   done (record net { skipped = net.skipped + 1 })
-net_option_by Unused plus net = do
+net_option_by Unused total plus net = do
   _ ← option_rest
   done net
 
-unfoldable pub net_option : Place → OpenNet → Form DefError OpenNet
-net_option plus net = do
+unfoldable pub net_option : ℕ → ℕ → OpenNet → Form DefError OpenNet
+net_option total plus net = do
   w ← look
-  net_option_by (net_option_of w) plus net
+  net_option_by (net_option_of w) total plus net
 
 -- one more option, or the closing `;`
-unfoldable pub more_net : OpenNet → Form DefError (Turn OpenNet)
-more_net net = do
+unfoldable pub more_net : ℕ → OpenNet → Form DefError (Turn OpenNet)
+more_net total net = do
+  at ← here total
   w ← next
   choose (bytes_eq w.word (codes ";")) (done (Done (record net { close = w.first }))) (
       choose (bytes_eq w.word (codes "+")) (do
-        net' ← net_option w net
+        net' ← net_option total at net
         done (More net')) (
       check (Err (Expected w.line))))
 
 -- `name` connections options `;`
-unfoldable pub net_item : Listed DefNet → Form DefError (Listed DefNet)
-net_item listed = do
+unfoldable pub net_item : ℕ → Listed DefNet → Form DefError (Listed DefNet)
+net_item total listed = do
   name ← a_name
   _ ← check (joined_by_must name)
   _ ← check (new_name listed.names name)
   pins ← connections
-  net ← loop more_net (record { wiring = []; close = 0; skipped = listed.skipped })
+  net ← loop (more_net total) (record { wiring = []; close = 0; skipped = listed.skipped })
   done (record {
     names = listed.names ++ name.word ∷ [];
     items = listed.items ++ record { name = name.word; pins = pins; wiring = net.wiring; close = net.close } ∷ [];

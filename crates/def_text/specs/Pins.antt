@@ -1,13 +1,12 @@
 -- PINS (DEF 5.8, Pins).
-use Rattle.std.specs.Prelude.{List, [], ◌∷◌, ◌++◌, Err, Option, Some, None, pos, bytes_eq, codes, map, if◌then◌else◌, ◌^◌, All, IfSome}
+use Rattle.std.specs.Prelude.{List, [], ◌∷◌, ◌++◌, Err, Option, Some, None, pos, bytes_eq, codes, map, ◌^◌, All, IfSome}
 use Rattle.rt_base.specs.Geometry.{hull_of, moved}
 use Rattle.rt_base.specs.Orientations.{placed}
 use Rattle.rt_base.specs.Ranges.{IsPointWithin, AreSidesWithin}
 use Rattle.rt_base.specs.declared.orient.Orient.{Orient}
-use Rattle.rt_base.specs.declared.orient.Orient.TheVariants.{N, W, S, E, FN, FS, FW, FE}
 use Rattle.rt_base.specs.declared.geometry.Point.{Point}
 use Rattle.rt_forms.specs.Lexeme.{Place}
-use Rattle.rt_forms.specs.Form.{Form, next, admit, look, check, done, ◌>>=◌, choose, loop, Turn, More, Done}
+use Rattle.rt_forms.specs.Form.{Form, next, look, check, done, ◌>>=◌, choose, loop, Turn, More, Done}
 use Rattle.rt_forms.specs.Reading.{a_name, option_rest}
 use Rattle.def_text.specs.declared.error.DefError.{DefError}
 use Rattle.def_text.specs.declared.error.DefError.TheVariants.{Expected, Refused}
@@ -20,20 +19,8 @@ use Rattle.def_text.specs.declared.pins.Ports.{Ports}
 use Rattle.def_text.specs.declared.sections.Listed.{Listed}
 use Rattle.def_text.specs.Defs.{Metal, IsName, IsMetal}
 use Rattle.def_text.specs.Kinds.{pin_option_of, behind_layer}
-use Rattle.def_text.specs.Parts.{a_number, point}
+use Rattle.def_text.specs.Parts.{a_number, point, placement}
 use Rattle.def_text.specs.Sections.{new_name}
-
-abbrev pub orient_of : Place → Option Orient
-orient_of w =
-    if bytes_eq w.word (codes "N") then Some N
-    else if bytes_eq w.word (codes "W") then Some W
-    else if bytes_eq w.word (codes "S") then Some S
-    else if bytes_eq w.word (codes "E") then Some E
-    else if bytes_eq w.word (codes "FN") then Some FN
-    else if bytes_eq w.word (codes "FS") then Some FS
-    else if bytes_eq w.word (codes "FW") then Some FW
-    else if bytes_eq w.word (codes "FE") then Some FE
-    else None
 
 -- a rectangle of a port, turned and moved
 abbrev pub placed_metal : Point → Orient → Metal → Metal
@@ -88,10 +75,8 @@ pin_port ports = do
 -- `PLACED|FIXED|COVER point orient`: the last one counts
 unfoldable pub pin_placed : Ports → Form DefError Ports
 pin_placed ports = do
-  _ ← next
-  at ← point
-  orient ← admit orient_of
-  done (record ports { placed = Some (at, orient) })
+  placed ← placement
+  done (record ports { placed = Some placed })
 
 abbrev pub pin_option_by : PinOption → Ports → Form DefError Ports
 pin_option_by Layer ports = pin_layer ports

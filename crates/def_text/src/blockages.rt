@@ -7,10 +7,11 @@ ghost use Rattle.rt_forms.specs.Reading.{or_end};
 ghost use Rattle.rt_forms.specs.Word.{place_of};
 ghost use Rattle.def_text.specs.Faults.{def_faults};
 ghost use Rattle.def_text.specs.Defs.{IsName, IsMetal};
-ghost use Rattle.def_text.specs.Blockages.{blockage_option_of as blockage_option_kind, ends_mark as ends_mark_test, skip_word as skip_word_form, mark_rest as mark_rest_form, mark_by, more_marks as more_marks_form, no_mark, blockage_shape as blockage_shape_form, more_shapes as more_shapes_form, blockage_shapes as blockage_shapes_form, blockage_layer as blockage_layer_form, blockage_item as blockage_item_form, more_blockages as more_blockages_form};
+ghost use Rattle.def_text.specs.Blockages.{blockage_option_of as blockage_option_kind, ends_mark as ends_mark_test, skip_word as skip_word_form, mark_rest as mark_rest_form, mark_by, more_marks as more_marks_form, no_mark, blockage_polygon as blockage_polygon_form, blockage_shape as blockage_shape_form, more_shapes as more_shapes_form, blockage_shapes as blockage_shapes_form, blockage_layer as blockage_layer_form, blockage_item as blockage_item_form, more_blockages as more_blockages_form};
 
 use crate::error::DefError;
 use crate::parts::{Words, name, number, point};
+use crate::polygons::{add_polygon, polygon};
 use crate::sections::section_end;
 use rt_base::{Name, Rect, Seq};
 use rt_forms::Word;
@@ -128,6 +129,26 @@ fn read_marks(words: &mut Words, marks: &mut Marks) -> Result<(), DefError>
     Ok(())
 }
 
+/// The points of a polygon, behind this word.
+#[tactic(auto, unfolding(crate::specs::Blockages::blockage_polygon))]
+fn blockage_polygon(
+    alloc: Global,
+    words: &mut Words,
+    layer: &[u8],
+    dropped: bool,
+    word: Word,
+    metal: &mut Seq<(Name, Rect)>,
+) -> Result<(), DefError>
+    requires layer { IsName layer.now }
+    requires metal { All IsMetal metal.old }
+    ensures reads { Reads def_faults (λ _. metal.new) result words.old words.new (blockage_polygon_form layer.now dropped (place_of word.entry) metal.old) }
+    ensures sound { OnOk result (All IsMetal metal.new) }
+{
+    let points = polygon(alloc, words, word)?;
+    add_polygon(alloc, layer, dropped, points.as_slice(), metal)?;
+    Ok(())
+}
+
 /// A shape that begins with this word.
 #[tactic(auto, unfolding(crate::specs::Blockages::blockage_shape))]
 fn blockage_shape(
@@ -152,7 +173,7 @@ fn blockage_shape(
         return Ok(());
     }
     if word.is(b"POLYGON") {
-        return Err(DefError::NotYet { line: word.line });
+        return blockage_polygon(alloc, words, layer, dropped, word, metal);
     }
     Err(DefError::Expected { line: word.line })
 }

@@ -1,7 +1,7 @@
 //! The first words of statements and options.
 ghost use Rattle.std.specs.Prelude.{◌≡◌};
 ghost use Rattle.rt_forms.specs.Lexeme.{first_of};
-ghost use Rattle.def_text.specs.Kinds.{statement_of, pin_option_of, behind_layer, net_option_of};
+ghost use Rattle.def_text.specs.Kinds.{statement_of, pin_option_of, behind_layer, net_option_of, special_option_of};
 
 use crate::parts::Words;
 use rt_words::statement;
@@ -18,11 +18,12 @@ pub enum Statement {
     Skipped,
     /// Skipped up to `ENDEXT`.
     Extension,
+    Vias,
+    Components,
     Pins,
     Blockages,
+    Special,
     Nets,
-    /// Not built yet.
-    Later,
     End,
     Other,
 }
@@ -51,6 +52,19 @@ pub enum NetOption {
     Wiring,
     Subnet,
     Rule,
+    Unused,
+}
+
+/// An option of a special net.
+#[derive(Clone, Copy, Debug, PartialEq, Eq)]
+pub enum SpecialOption {
+    /// Paths of wiring, or the word before a rectangle or vias.
+    Wired,
+    /// A rectangle, or vias.
+    Metal,
+    Shape,
+    Style,
+    Refused,
     Unused,
 }
 
@@ -152,15 +166,17 @@ pub fn statement_of(word: &[u8]) -> Statement
         UNITS => Statement::Units,
         DIEAREA => Statement::Die,
         TRACKS => Statement::Tracks,
+        VIAS => Statement::Vias,
+        COMPONENTS => Statement::Components,
         PINS => Statement::Pins,
         NETS => Statement::Nets,
         BLOCKAGES => Statement::Blockages,
+        SPECIALNETS => Statement::Special,
         VERSION | DIVIDERCHAR | BUSBITCHARS | NAMESCASESENSITIVE | DESIGN | TECHNOLOGY
             | HISTORY | ROW | GCELLGRID => Statement::Unused,
         PROPERTYDEFINITIONS | REGIONS | GROUPS | FILLS | SLOTS | NONDEFAULTRULES | PINPROPERTIES
             | STYLES | SCANCHAINS => Statement::Skipped,
         BEGINEXT => Statement::Extension,
-        VIAS | COMPONENTS | SPECIALNETS => Statement::Later,
         END => Statement::End,
         _ => Statement::Other,
     )
@@ -255,5 +271,52 @@ pub fn net_option_of(words: &Words) -> NetOption
         NET_SUBNET => NetOption::Subnet,
         NET_NONDEFAULTRULE => NetOption::Rule,
         _ => NetOption::Unused,
+    )
+}
+
+const SPECIAL_OPTIONS: [[u8; 20]; 9] = [
+    *b"ROUTED              ",
+    *b"FIXED               ",
+    *b"COVER               ",
+    *b"RECT                ",
+    *b"VIA                 ",
+    *b"SHAPE               ",
+    *b"STYLE               ",
+    *b"SHIELD              ",
+    *b"POLYGON             ",
+];
+
+const SPECIAL_ROUTED: usize = 0;
+
+const SPECIAL_FIXED: usize = 1;
+
+const SPECIAL_COVER: usize = 2;
+
+const SPECIAL_RECT: usize = 3;
+
+const SPECIAL_VIA: usize = 4;
+
+const SPECIAL_SHAPE: usize = 5;
+
+const SPECIAL_STYLE: usize = 6;
+
+const SPECIAL_SHIELD: usize = 7;
+
+const SPECIAL_POLYGON: usize = 8;
+
+/// The option of a special net whose first word comes next.
+pub fn special_option_of(words: &Words) -> SpecialOption
+    ensures { result ≡ special_option_of (first_of words.now) }
+{
+    let Some(word) = words.peek() else {
+        return SpecialOption::Unused;
+    };
+    statement!(SPECIAL_OPTIONS, word.bytes,
+        SPECIAL_ROUTED | SPECIAL_FIXED | SPECIAL_COVER => SpecialOption::Wired,
+        SPECIAL_RECT | SPECIAL_VIA => SpecialOption::Metal,
+        SPECIAL_SHAPE => SpecialOption::Shape,
+        SPECIAL_STYLE => SpecialOption::Style,
+        SPECIAL_SHIELD | SPECIAL_POLYGON => SpecialOption::Refused,
+        _ => SpecialOption::Unused,
     )
 }

@@ -1,19 +1,23 @@
 //! Nets.
-ghost use Rattle.std.specs.Prelude.{◌≡◌, ◌^◌, ◌+◌, ◌≤◌, true, codes, length, IfOk, OnOk};
+ghost use Rattle.std.specs.Prelude.{◌≡◌, ◌^◌, ◌+◌, ◌-◌, ◌≤◌, All, true, codes, length, IfOk, OnOk};
 ghost use Rattle.rt_forms.specs.Clauses.{Reads, Looks, Gives};
 ghost use Rattle.rt_forms.specs.Form.{More, turn, loop, unless};
+ghost use Rattle.rt_forms.specs.Reading.{left_of};
 ghost use Rattle.rt_forms.specs.Word.{place_of};
 ghost use Rattle.def_text.specs.declared.def.DefNet.{DefNet};
 ghost use Rattle.def_text.specs.Faults.{def_faults};
-ghost use Rattle.def_text.specs.Defs.{IsDefNet};
+ghost use Rattle.def_text.specs.Defs.{IsRange};
+ghost use Rattle.def_text.specs.Parts.{no_bracket};
+ghost use Rattle.def_text.specs.Wiring.{IsNetOf};
 ghost use Rattle.def_text.specs.Sections.{AreListed, more_items};
-ghost use Rattle.def_text.specs.Nets.{AreFew, joined_by_must as joined_by_must_of, third as third_of, io_alone as io_alone_of, connection_tail as connection_tail_form, connection as connection_form, connections as connections_form, no_connection, net_option as net_option_form, more_net as more_net_form, net_item as net_item_form};
+ghost use Rattle.def_text.specs.Nets.{AreFew, joined_by_must as joined_by_must_of, connection_tail as connection_tail_form, connection as connection_form, connections as connections_form, net_wiring as net_wiring_form, net_option as net_option_form, more_net as more_net_form, net_item as net_item_form};
 
 use crate::def::DefNet;
 use crate::error::DefError;
 use crate::kinds::{NetOption, net_option_of};
-use crate::parts::{Words, name, refused};
+use crate::parts::{Words, here, name, refused};
 use crate::sections::{Listed, new_name, section_end};
+use crate::wiring::wiring_range;
 use rt_base::{Name, Seq};
 use rt_forms::Word;
 use std::alloc::Global;
@@ -38,7 +42,7 @@ fn joined_by_must(alloc: Global, word: Word) -> Result<(), DefError>
 
 /// Behind the pin of a connection.
 #[tactic(auto, unfolding(crate::specs::Nets::connection_tail))]
-fn connection_tail(words: &mut Words) -> Result<(), DefError>
+pub fn connection_tail(words: &mut Words) -> Result<(), DefError>
     ensures { Reads def_faults (λ x. x) result words.old words.new connection_tail_form }
 {
     let word = words.next()?;
@@ -68,9 +72,6 @@ fn connection(
         return Err(DefError::NotYet { line: first.line });
     }
     let of = name(words)?;
-    if !of.is(b"PIN") {
-        return Err(DefError::NotYet { line: first.line });
-    }
     let pin = name(words)?;
     connection_tail(words)?;
     pins.push((Name::new(alloc, of.bytes)?, Name::new(alloc, pin.bytes)?))?;
@@ -84,7 +85,7 @@ fn further_connections(
     pins: &mut Seq<(Name, Name)>,
 ) -> Result<(), DefError>
     requires { AreFew pins.old }
-    ensures reads { Looks def_faults (λ _. pins.new) result words.old words.new (loop (unless no_connection connection_form) pins.old) }
+    ensures reads { Looks def_faults (λ _. pins.new) result words.old words.new (loop (unless no_bracket connection_form) pins.old) }
     ensures sound { OnOk result (AreFew pins.new) }
 {
     'connections: while words.at(b"(") {
@@ -103,20 +104,38 @@ fn connections(alloc: Global, words: &mut Words) -> Result<Seq<(Name, Name)>, De
     Ok(pins)
 }
 
-/// An option behind its `+`, which stands on this line.
+/// An option of wiring behind its `+`, which has this number.
+#[tactic(auto, unfolding(crate::specs::Nets::net_wiring))]
+fn net_wiring(words: &mut Words, total: u32, plus: u32, net: &mut OpenNet) -> Result<(), DefError>
+    requires plus { plus ≤ total - left_of words.old }
+    requires wiring { All (IsRange total) net.old.wiring }
+    ensures reads { Reads def_faults (λ _. net.new) result words.old words.new (net_wiring_form total plus net.old) }
+    ensures wiring { OnOk result (All (IsRange total) net.new.wiring) }
+    ensures skipped { OnOk result (net.new.skipped ≡ net.old.skipped) }
+{
+    let range = wiring_range(words, total, plus)?;
+    net.wiring.push(range)?;
+    Ok(())
+}
+
+/// An option behind its `+`, which has this number, in a text of so many words.
 #[tactic(auto, unfolding(crate::specs::Nets::net_option))]
 fn net_option(
     alloc: Global,
     words: &mut Words,
-    plus: Word,
+    total: u32,
+    plus: u32,
     net: &mut OpenNet,
 ) -> Result<(), DefError>
     requires few { net.old.skipped + length words.old ≤ 2 ^ 32 }
-    ensures reads { Looks def_faults (λ _. net.new) result words.old words.new (net_option_form (place_of plus.entry) net.old) }
+    requires plus { plus ≤ total - left_of words.old }
+    requires wiring { All (IsRange total) net.old.wiring }
+    ensures reads { Looks def_faults (λ _. net.new) result words.old words.new (net_option_form total plus net.old) }
+    ensures wiring { OnOk result (All (IsRange total) net.new.wiring) }
     ensures few { OnOk result (net.new.skipped + length words.new ≤ net.old.skipped + length words.old) }
 {
     match net_option_of(words) {
-        NetOption::Wiring => Err(DefError::NotYet { line: plus.line }),
+        NetOption::Wiring => net_wiring(words, total, plus, net),
         NetOption::Subnet => {
             let word = words.next()?;
             Err(refused(alloc, word))
@@ -136,40 +155,55 @@ fn net_option(
 
 /// One more option, or the closing `;`. True where it was the `;`.
 #[tactic(auto, unfolding(crate::specs::Nets::more_net))]
-fn more_net(alloc: Global, words: &mut Words, net: &mut OpenNet) -> Result<bool, DefError>
+fn more_net(
+    alloc: Global,
+    words: &mut Words,
+    total: u32,
+    net: &mut OpenNet,
+) -> Result<bool, DefError>
     requires few { net.old.skipped + length words.old ≤ 2 ^ 32 }
-    ensures reads { Reads def_faults (λ last. turn last net.new) result words.old words.new (more_net_form net.old) }
+    requires wiring { All (IsRange total) net.old.wiring }
+    ensures reads { Reads def_faults (λ last. turn last net.new) result words.old words.new (more_net_form total net.old) }
+    ensures wiring { OnOk result (All (IsRange total) net.new.wiring) }
     ensures few { OnOk result (net.new.skipped + length words.new ≤ net.old.skipped + length words.old) }
 {
+    let at = here(words, total);
     let word = words.next()?;
     if word.is(b";") {
         net.close = word.first;
         return Ok(true);
     }
     if word.is(b"+") {
-        net_option(alloc, words, word, net)?;
+        net_option(alloc, words, total, at, net)?;
         return Ok(false);
     }
     Err(DefError::Expected { line: word.line })
 }
 
 /// The options of a net, and the closing `;`.
-fn options(alloc: Global, words: &mut Words, net: &mut OpenNet) -> Result<(), DefError>
+fn options(alloc: Global, words: &mut Words, total: u32, net: &mut OpenNet) -> Result<(), DefError>
     requires few { net.old.skipped + length words.old ≤ 2 ^ 32 }
-    ensures reads { Reads def_faults (λ _. net.new) result words.old words.new (loop more_net_form net.old) }
+    requires wiring { All (IsRange total) net.old.wiring }
+    ensures reads { Reads def_faults (λ _. net.new) result words.old words.new (loop (more_net_form total) net.old) }
+    ensures wiring { OnOk result (All (IsRange total) net.new.wiring) }
     ensures few { OnOk result (net.new.skipped + length words.new ≤ net.old.skipped + length words.old) }
 {
-    'options: while !more_net(alloc, words, net)? {}
+    'options: while !more_net(alloc, words, total, net)? {}
     Ok(())
 }
 
-/// A net behind its `-`.
+/// A net behind its `-`, in a text of so many words.
 #[tactic(auto, unfolding(crate::specs::Nets::net_item))]
-fn net_item(alloc: Global, words: &mut Words, listed: &mut Listed<DefNet>) -> Result<(), DefError>
-    requires sound { AreListed IsDefNet (λ (n : DefNet). n.name) listed.old }
+fn net_item(
+    alloc: Global,
+    words: &mut Words,
+    total: u32,
+    listed: &mut Listed<DefNet>,
+) -> Result<(), DefError>
+    requires sound { AreListed (IsNetOf total) (λ (n : DefNet). n.name) listed.old }
     requires few { listed.old.skipped + length words.old ≤ 2 ^ 32 }
-    ensures reads { Reads def_faults (λ _. listed.new) result words.old words.new (net_item_form listed.old) }
-    ensures sound { OnOk result (AreListed IsDefNet (λ (n : DefNet). n.name) listed.new) }
+    ensures reads { Reads def_faults (λ _. listed.new) result words.old words.new (net_item_form total listed.old) }
+    ensures sound { OnOk result (AreListed (IsNetOf total) (λ (n : DefNet). n.name) listed.new) }
     ensures few { OnOk result (listed.new.skipped + length words.new ≤ listed.old.skipped + length words.old) }
 {
     let word = name(words)?;
@@ -181,7 +215,7 @@ fn net_item(alloc: Global, words: &mut Words, listed: &mut Listed<DefNet>) -> Re
         close: 0,
         skipped: listed.skipped,
     };
-    options(alloc, words, &mut open)?;
+    options(alloc, words, total, &mut open)?;
     let net = DefNet {
         name: Name::new(alloc, word.bytes)?,
         pins,
@@ -198,19 +232,20 @@ fn net_item(alloc: Global, words: &mut Words, listed: &mut Listed<DefNet>) -> Re
 fn more_nets(
     alloc: Global,
     words: &mut Words,
+    total: u32,
     said: u32,
     listed: &mut Listed<DefNet>,
 ) -> Result<bool, DefError>
-    requires sound { AreListed IsDefNet (λ (n : DefNet). n.name) listed.old }
+    requires sound { AreListed (IsNetOf total) (λ (n : DefNet). n.name) listed.old }
     requires few { listed.old.skipped + length words.old ≤ 2 ^ 32 }
-    ensures reads { Reads def_faults (λ last. turn last listed.new) result words.old words.new (more_items (codes "NETS") said net_item_form listed.old) }
-    ensures sound { OnOk result (AreListed IsDefNet (λ (n : DefNet). n.name) listed.new) }
+    ensures reads { Reads def_faults (λ last. turn last listed.new) result words.old words.new (more_items (codes "NETS") said (net_item_form total) listed.old) }
+    ensures sound { OnOk result (AreListed (IsNetOf total) (λ (n : DefNet). n.name) listed.new) }
     ensures few { OnOk result (listed.new.skipped + length words.new ≤ listed.old.skipped + length words.old) }
     ensures count { IfOk result (λ last. last ≡ true → length listed.new.items ≡ said) }
 {
     let word = words.next()?;
     if word.is(b"-") {
-        net_item(alloc, words, listed)?;
+        net_item(alloc, words, total, listed)?;
         return Ok(false);
     }
     if word.is(b"END") {
@@ -224,16 +259,17 @@ fn more_nets(
 pub fn nets(
     alloc: Global,
     words: &mut Words,
+    total: u32,
     said: u32,
     listed: &mut Listed<DefNet>,
 ) -> Result<(), DefError>
-    requires sound { AreListed IsDefNet (λ (n : DefNet). n.name) listed.old }
+    requires sound { AreListed (IsNetOf total) (λ (n : DefNet). n.name) listed.old }
     requires few { listed.old.skipped + length words.old ≤ 2 ^ 32 }
-    ensures reads { Reads def_faults (λ _. listed.new) result words.old words.new (loop (more_items (codes "NETS") said net_item_form) listed.old) }
-    ensures sound { OnOk result (AreListed IsDefNet (λ (n : DefNet). n.name) listed.new) }
+    ensures reads { Reads def_faults (λ _. listed.new) result words.old words.new (loop (more_items (codes "NETS") said (net_item_form total)) listed.old) }
+    ensures sound { OnOk result (AreListed (IsNetOf total) (λ (n : DefNet). n.name) listed.new) }
     ensures few { OnOk result (listed.new.skipped + length words.new ≤ listed.old.skipped + length words.old) }
     ensures count { OnOk result (length listed.new.items ≡ said) }
 {
-    'nets: while !more_nets(alloc, words, said, listed)? {}
+    'nets: while !more_nets(alloc, words, total, said, listed)? {}
     Ok(())
 }

@@ -1,17 +1,19 @@
 //! Parts that several statements share: numbers, points, names and what stands once alone.
-ghost use Rattle.std.specs.Prelude.{◌≡◌, ◌≢◌, ◌^◌, ◌≤◌, ◌<◌, IfOk};
+ghost use Rattle.std.specs.Prelude.{◌≡◌, ◌≢◌, ◌^◌, ◌≤◌, ◌<◌, ◌-◌, length, IfOk};
 ghost use Rattle.rt_base.specs.Ranges.{IsWithin, IsPointWithin};
 ghost use Rattle.rt_forms.specs.Clauses.{Reads, Gives};
-ghost use Rattle.rt_forms.specs.Reading.{a_name};
+ghost use Rattle.rt_forms.specs.Reading.{a_name, left_of, or_end, ends_option, from_first};
+ghost use Rattle.rt_forms.specs.Form.{admit};
+ghost use Rattle.rt_forms.specs.Lexeme.{first_of};
 ghost use Rattle.rt_forms.specs.Word.{place_of};
 ghost use Rattle.rt_words.specs.Reading.{integer_of};
 ghost use Rattle.def_text.specs.Faults.{def_faults};
 ghost use Rattle.def_text.specs.Defs.{IsName};
-ghost use Rattle.def_text.specs.Parts.{a_number, a_count, within as within_of, point as point_form, once as once_of};
+ghost use Rattle.def_text.specs.Parts.{a_number, a_count, within as within_of, point as point_form, orient_of, placement as placement_form, once as once_of};
 ghost use Rattle.def_text.specs.declared.error.DefError.TheVariants.{Refused as RefusedAt};
 
 use crate::error::DefError;
-use rt_base::{Memory, Name, Point};
+use rt_base::{Memory, Name, Orient, Point};
 use rt_forms::Word;
 use rt_words::{NumberFault, integer};
 use std::alloc::Global;
@@ -77,6 +79,79 @@ pub fn point(words: &mut Words) -> Result<Point, DefError>
     let y = number(words)?;
     words.expect(b")")?;
     Ok(Point { x, y })
+}
+
+/// An orientation.
+fn orient(words: &mut Words) -> Result<Orient, DefError>
+    ensures { Reads def_faults (λ x. x) result words.old words.new (admit orient_of) }
+{
+    let word = words.next()?;
+    if word.is(b"N") {
+        return Ok(Orient::N);
+    }
+    if word.is(b"W") {
+        return Ok(Orient::W);
+    }
+    if word.is(b"S") {
+        return Ok(Orient::S);
+    }
+    if word.is(b"E") {
+        return Ok(Orient::E);
+    }
+    if word.is(b"FN") {
+        return Ok(Orient::FN);
+    }
+    if word.is(b"FS") {
+        return Ok(Orient::FS);
+    }
+    if word.is(b"FW") {
+        return Ok(Orient::FW);
+    }
+    if word.is(b"FE") {
+        return Ok(Orient::FE);
+    }
+    Err(DefError::Expected { line: word.line })
+}
+
+/// `PLACED|FIXED|COVER point orient`.
+#[tactic(auto, unfolding(crate::specs::Parts::placement))]
+pub fn placement(words: &mut Words) -> Result<(Point, Orient), DefError>
+    ensures reads { Reads def_faults (λ x. x) result words.old words.new placement_form }
+    ensures small { IfOk result (λ p. IsPointWithin (2 ^ 30) p.0) }
+{
+    words.next()?;
+    let at = point(words)?;
+    let orient = orient(words)?;
+    Ok((at, orient))
+}
+
+/// The number of the next word, counted from 0, in a text of so many.
+pub fn here(words: &Words, total: u32) -> u32
+    ensures { result ≡ total - left_of words.now }
+{
+    (total as usize).saturating_sub(words.left()) as u32
+}
+
+/// Whether an option ends here.
+fn option_ends(words: &Words) -> bool
+    ensures { result ≡ or_end ends_option (first_of words.now) }
+{
+    match words.peek() {
+        None => true,
+        Some(word) => word.is(b"+") || word.is(b";"),
+    }
+}
+
+/// Takes all words of an option that are left, and says whether there are none.
+pub fn option_tail(words: &mut Words) -> bool
+    ensures alone { result ≡ or_end ends_option (first_of words.old) }
+    ensures words { words.new ≡ from_first ends_option words.old }
+    ensures shorter { length words.new ≤ length words.old }
+    ensures left { left_of words.new ≤ left_of words.old }
+{
+    let alone = option_ends(words);
+    words.option_rest();
+    alone
 }
 
 /// A name.

@@ -2,19 +2,19 @@
 ghost use Rattle.std.specs.Prelude.{◌≡◌, ◌^◌, ◌≤◌, ◌++◌, ◌∷◌, [], None, map, length, IfOk, IfErr, IfSome, OnOk, All, codes, true};
 ghost use Rattle.rt_base.specs.Ranges.{IsPointWithin};
 ghost use Rattle.rt_forms.specs.Clauses.{Reads, Looks};
-ghost use Rattle.rt_forms.specs.Form.{admit, turn, loop};
+ghost use Rattle.rt_forms.specs.Form.{turn, loop};
 ghost use Rattle.rt_forms.specs.Lexeme.{first_of};
 ghost use Rattle.def_text.specs.declared.def.IoPin.{IoPin};
 ghost use Rattle.def_text.specs.Faults.{def_faults};
 ghost use Rattle.def_text.specs.Defs.{IsMetal, IsIoPin};
 ghost use Rattle.def_text.specs.Kinds.{behind_layer, pin_option_of};
 ghost use Rattle.def_text.specs.Sections.{AreListed, more_items};
-ghost use Rattle.def_text.specs.Pins.{orient_of, placed_metal as placed_metal_of, all_placed, IsUnplaced, ArePorts, layer_rule as layer_rule_form, pin_layer as pin_layer_form, pin_port as pin_port_form, pin_placed as pin_placed_form, pin_option_by, pin_option as pin_option_form, more_pin as more_pin_form, pin_item as pin_item_form};
+ghost use Rattle.def_text.specs.Pins.{placed_metal as placed_metal_of, all_placed, IsUnplaced, ArePorts, layer_rule as layer_rule_form, pin_layer as pin_layer_form, pin_port as pin_port_form, pin_placed as pin_placed_form, pin_option_by, pin_option as pin_option_form, more_pin as more_pin_form, pin_item as pin_item_form};
 
 use crate::def::IoPin;
 use crate::error::DefError;
 use crate::kinds::{BehindLayer, PinOption, behind_layer, pin_option_of};
-use crate::parts::{Words, name, number, point, refused};
+use crate::parts::{Words, name, number, placement, point, refused};
 use crate::sections::{Listed, new_name, section_end};
 use rt_base::{Name, Orient, Point, Rect, Seq, place};
 use std::alloc::Global;
@@ -26,38 +26,6 @@ pub struct Ports {
     pub rects: Seq<(Name, Rect)>,
     pub metal: Seq<(Name, Rect)>,
     pub placed: Option<(Point, Orient)>,
-}
-
-/// An orientation.
-fn orient(words: &mut Words) -> Result<Orient, DefError>
-    ensures { Reads def_faults (λ x. x) result words.old words.new (admit orient_of) }
-{
-    let word = words.next()?;
-    if word.is(b"N") {
-        return Ok(Orient::N);
-    }
-    if word.is(b"W") {
-        return Ok(Orient::W);
-    }
-    if word.is(b"S") {
-        return Ok(Orient::S);
-    }
-    if word.is(b"E") {
-        return Ok(Orient::E);
-    }
-    if word.is(b"FN") {
-        return Ok(Orient::FN);
-    }
-    if word.is(b"FS") {
-        return Ok(Orient::FS);
-    }
-    if word.is(b"FW") {
-        return Ok(Orient::FW);
-    }
-    if word.is(b"FE") {
-        return Ok(Orient::FE);
-    }
-    Err(DefError::Expected { line: word.line })
 }
 
 /// A rectangle of a port, turned and moved.
@@ -166,10 +134,7 @@ fn pin_placed(words: &mut Words, ports: &mut Ports) -> Result<(), DefError>
     ensures reads { Reads def_faults (λ _. ports.new) result words.old words.new (pin_placed_form ports.old) }
     ensures sound { OnOk result (ArePorts ports.new) }
 {
-    words.next()?;
-    let at = point(words)?;
-    let orient = orient(words)?;
-    ports.placed = Some((at, orient));
+    ports.placed = Some(placement(words)?);
     Ok(())
 }
 

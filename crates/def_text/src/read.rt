@@ -3,40 +3,47 @@ ghost use Rattle.std.specs.Prelude.{◌≡◌, ◌<◌, ◌≤◌, ◌+◌, ◌^
 ghost use Rattle.rt_base.specs.Scan.{IsCutInto};
 ghost use Rattle.rt_forms.specs.Clauses.{Reads, Looks, ReadsText};
 ghost use Rattle.rt_forms.specs.Form.{turn, loop};
+ghost use Rattle.rt_forms.specs.Reading.{left_of};
 ghost use Rattle.def_text.specs.Faults.{def_faults};
-ghost use Rattle.def_text.specs.Defs.{IsDef, AreCloses};
+ghost use Rattle.def_text.specs.Defs.{IsDef, AreRanges, AreCloses};
 ghost use Rattle.def_text.specs.Texts.{IsParsed, statement as statement_form, until_units as until_units_form, nothing_read, a_def as a_def_form, def_form, units_form};
 ghost use Rattle.def_text.specs.Clauses.{unread as unread_of, ReadsBeginning, ReadsBytes};
 
 use crate::def::Def;
 use crate::error::DefError;
 use crate::parts::Words;
-use crate::statements::{Parsed, finished, statement};
+use crate::statements::{Parsed, built, finished, statement};
 use rt_base::{Name, ScanError, Seq, Token, tokens};
 use std::alloc::Global;
 
-/// Nothing was read yet.
-fn nothing_read(alloc: Global) -> Parsed
-    ensures value { result ≡ nothing_read }
+/// Nothing was read yet of a text of so many words.
+pub fn nothing_read(alloc: Global, total: u32) -> Parsed
+    ensures value { result ≡ nothing_read total }
     ensures sound { IsParsed result }
 {
     Parsed {
+        total,
         units: None,
         die: None,
         tracks: Seq::new(alloc),
+        vias: None,
+        components: None,
         pins: None,
         blockages: None,
+        special: None,
         nets: None,
         skipped: 0,
+        end: 0,
     }
 }
 
 /// The statements of a text up to its end.
-fn statements(alloc: Global, words: &mut Words, parsed: &mut Parsed) -> Result<(), DefError>
+pub fn statements(alloc: Global, words: &mut Words, parsed: &mut Parsed) -> Result<(), DefError>
     requires sound { IsParsed parsed.old }
     requires few { parsed.old.skipped + length words.old ≤ 2 ^ 32 }
     ensures reads { Reads def_faults (λ _. parsed.new) result words.old words.new (loop statement_form parsed.old) }
     ensures sound { OnOk result (IsParsed parsed.new) }
+    ensures total { OnOk result (parsed.new.total ≡ parsed.old.total) }
 {
     'statements: while !statement(alloc, words, parsed)? {}
     Ok(())
@@ -44,23 +51,30 @@ fn statements(alloc: Global, words: &mut Words, parsed: &mut Parsed) -> Result<(
 
 /// What a text says, up to `END DESIGN`.
 #[tactic(auto, unfolding(crate::specs::Texts::a_def))]
-fn a_def(alloc: Global, words: &mut Words) -> Result<Def, DefError>
-    requires { length words.old ≤ 2 ^ 32 }
+fn a_def(alloc: Global, words: &mut Words, total: u32) -> Result<Def, DefError>
+    requires few { length words.old ≤ 2 ^ 32 }
+    requires total { left_of words.old ≡ total }
     ensures reads { Reads def_faults (λ x. x) result words.old words.new a_def_form }
     ensures sound { IfOk result (λ d. IsDef d) }
+    ensures ranges { IfOk result (λ d. AreRanges total d) }
 {
-    let mut parsed = nothing_read(alloc);
+    let mut parsed = nothing_read(alloc, total);
     statements(alloc, words, &mut parsed)?;
-    finished(alloc, parsed)
+    let end = parsed.end;
+    let def = finished(alloc, parsed)?;
+    built(end, &def)?;
+    Ok(def)
 }
 
 /// What a text says, with nothing behind `END DESIGN`.
-fn whole_def(alloc: Global, words: &mut Words) -> Result<Def, DefError>
-    requires { length words.old ≤ 2 ^ 32 }
+fn whole_def(alloc: Global, words: &mut Words, total: u32) -> Result<Def, DefError>
+    requires few { length words.old ≤ 2 ^ 32 }
+    requires total { left_of words.old ≡ total }
     ensures reads { Looks def_faults (λ x. x) result words.old words.new def_form }
     ensures sound { IfOk result (λ d. IsDef d) }
+    ensures ranges { IfOk result (λ d. AreRanges total d) }
 {
-    let def = a_def(alloc, words)?;
+    let def = a_def(alloc, words, total)?;
     words.end()?;
     Ok(def)
 }
@@ -72,6 +86,7 @@ fn until_units(alloc: Global, words: &mut Words, parsed: &mut Parsed) -> Result<
     requires few { parsed.old.skipped + length words.old ≤ 2 ^ 32 }
     ensures reads { Reads def_faults (λ last. turn last parsed.new) result words.old words.new (until_units_form parsed.old) }
     ensures sound { OnOk result (IsParsed parsed.new) }
+    ensures total { OnOk result (parsed.new.total ≡ parsed.old.total) }
     ensures few { OnOk result (parsed.new.skipped + length words.new ≤ parsed.old.skipped + length words.old) }
 {
     let last = statement(alloc, words, parsed)?;
@@ -90,11 +105,12 @@ fn before_units(alloc: Global, words: &mut Words, parsed: &mut Parsed) -> Result
 
 /// The units of a text.
 #[tactic(auto, unfolding(crate::specs::Texts::units_form))]
-fn the_units(alloc: Global, words: &mut Words) -> Result<u32, DefError>
-    requires { length words.old ≤ 2 ^ 32 }
+fn the_units(alloc: Global, words: &mut Words, total: u32) -> Result<u32, DefError>
+    requires few { length words.old ≤ 2 ^ 32 }
+    requires total { left_of words.old ≡ total }
     ensures { Reads def_faults (λ x. x) result words.old words.new units_form }
 {
-    let mut parsed = nothing_read(alloc);
+    let mut parsed = nothing_read(alloc, total);
     before_units(alloc, words, &mut parsed)?;
     match parsed.units {
         None => Err(DefError::Missing {
@@ -112,7 +128,7 @@ pub fn read_units_tokens(alloc: Global, text: &[u8], tokens: &[Token]) -> Result
     ensures { ReadsBeginning units_form text.now tokens.now result }
 {
     let mut words = Words::new(text, tokens);
-    the_units(alloc, &mut words)
+    the_units(alloc, &mut words, tokens.len() as u32)
 }
 
 /// What a text with these tokens says.
@@ -121,10 +137,11 @@ pub fn read_def_tokens(alloc: Global, text: &[u8], tokens: &[Token]) -> Result<D
     requires tokens { IsCutInto text.now tokens.now }
     ensures reads { ReadsText def_faults (λ x. x) def_form text.now tokens.now result }
     ensures fits { IfOk result (λ d. IsDef d) }
+    ensures ranges { IfOk result (λ d. AreRanges (length tokens.now) d) }
     ensures closes { IfOk result (λ d. AreCloses (length text.now) d.nets) }
 {
     let mut words = Words::new(text, tokens);
-    whole_def(alloc, &mut words)
+    whole_def(alloc, &mut words, tokens.len() as u32)
 }
 
 /// Why a text has no tokens, as an error of DEF.

@@ -1,21 +1,25 @@
 //! Statements.
-ghost use Rattle.std.specs.Prelude.{◌≡◌, ◌^◌, ◌+◌, ◌≤◌, length, IfOk, OnOk};
+ghost use Rattle.std.specs.Prelude.{◌≡◌, ◌^◌, ◌+◌, ◌≤◌, length, bytes_eq, codes, IfOk, OnOk, List, ℕ};
+ghost use Rattle.std.specs.List.{list_all};
 ghost use Rattle.rt_forms.specs.Clauses.{Reads, Gives};
 ghost use Rattle.rt_forms.specs.Form.{More, turn, loop};
 ghost use Rattle.rt_forms.specs.Word.{place_of};
 ghost use Rattle.def_text.specs.Faults.{def_faults};
-ghost use Rattle.def_text.specs.Defs.{IsDef};
-ghost use Rattle.def_text.specs.Texts.{IsParsed, units_statement as units_statement_form, die_statement as die_statement_form, tracks_statement as tracks_statement_form, pins_section as pins_section_form, blockages_section as blockages_section_form, nets_section as nets_section_form, statement as statement_form, or_none as or_none_of, finished as finished_of};
+ghost use Rattle.def_text.specs.Defs.{IsDef, AreRanges};
+ghost use Rattle.def_text.specs.Texts.{IsParsed, units_statement as units_statement_form, die_statement as die_statement_form, tracks_statement as tracks_statement_form, vias_section as vias_section_form, components_section as components_section_form, pins_section as pins_section_form, blockages_section as blockages_section_form, special_section as special_section_form, nets_section as nets_section_form, statement as statement_form, or_none as or_none_of, finished as finished_of, is_plain as is_plain_of, is_built as is_built_of, built as built_of};
 
 use crate::blockages::{Blocked, blockages};
-use crate::def::{Def, DefNet, IoPin, TrackRow};
+use crate::components::components;
+use crate::def::{Component, Def, DefNet, DefVia, IoPin, TrackRow};
 use crate::error::DefError;
 use crate::kinds::{Statement, statement_of};
 use crate::nets::nets;
 use crate::parts::{Words, count, once};
 use crate::pins::pins;
 use crate::sections::{Listed, said_count};
+use crate::special::specials;
 use crate::tracks::{die, track_row};
+use crate::vias::vias;
 use rt_base::{Name, Rect, Seq};
 use rt_forms::{Names, Word};
 use std::alloc::Global;
@@ -23,13 +27,20 @@ use std::alloc::Global;
 /// What was read of a text. A section that hasn't stood yet is None.
 #[derive(Drop)]
 pub struct Parsed {
+    /// How many words the text has.
+    pub total: u32,
     pub units: Option<u32>,
     pub die: Option<Rect>,
     pub tracks: Seq<TrackRow>,
+    pub vias: Option<Seq<DefVia>>,
+    pub components: Option<Seq<Component>>,
     pub pins: Option<Seq<IoPin>>,
     pub blockages: Option<Seq<(Name, Rect)>>,
+    pub special: Option<Seq<DefNet>>,
     pub nets: Option<Seq<DefNet>>,
     pub skipped: u32,
+    /// The line of its last `END`.
+    pub end: u32,
 }
 
 /// `UNITS DISTANCE MICRONS n ;` behind its first word.
@@ -43,6 +54,7 @@ fn units_statement(
     requires { IsParsed parsed.old }
     ensures reads { Reads def_faults (λ _. More parsed.new) result words.old words.new (units_statement_form (place_of word.entry) parsed.old) }
     ensures sound { OnOk result (IsParsed parsed.new) }
+    ensures total { OnOk result (parsed.new.total ≡ parsed.old.total) }
     ensures few { OnOk result (parsed.new.skipped + length words.new ≤ parsed.old.skipped + length words.old) }
 {
     once(alloc, &parsed.units, word)?;
@@ -65,6 +77,7 @@ fn die_statement(
     requires { IsParsed parsed.old }
     ensures reads { Reads def_faults (λ _. More parsed.new) result words.old words.new (die_statement_form (place_of word.entry) parsed.old) }
     ensures sound { OnOk result (IsParsed parsed.new) }
+    ensures total { OnOk result (parsed.new.total ≡ parsed.old.total) }
     ensures few { OnOk result (parsed.new.skipped + length words.new ≤ parsed.old.skipped + length words.old) }
 {
     once(alloc, &parsed.die, word)?;
@@ -78,9 +91,64 @@ fn tracks_statement(alloc: Global, words: &mut Words, parsed: &mut Parsed) -> Re
     requires { IsParsed parsed.old }
     ensures reads { Reads def_faults (λ _. More parsed.new) result words.old words.new (tracks_statement_form parsed.old) }
     ensures sound { OnOk result (IsParsed parsed.new) }
+    ensures total { OnOk result (parsed.new.total ≡ parsed.old.total) }
     ensures few { OnOk result (parsed.new.skipped + length words.new ≤ parsed.old.skipped + length words.old) }
 {
     parsed.tracks.push(track_row(alloc, words)?)?;
+    Ok(())
+}
+
+/// `VIAS` behind its first word.
+#[tactic(auto, unfolding(crate::specs::Texts::vias_section))]
+fn vias_section(
+    alloc: Global,
+    words: &mut Words,
+    word: Word,
+    parsed: &mut Parsed,
+) -> Result<(), DefError>
+    requires { IsParsed parsed.old }
+    ensures reads { Reads def_faults (λ _. More parsed.new) result words.old words.new (vias_section_form (place_of word.entry) parsed.old) }
+    ensures sound { OnOk result (IsParsed parsed.new) }
+    ensures total { OnOk result (parsed.new.total ≡ parsed.old.total) }
+    ensures few { OnOk result (parsed.new.skipped + length words.new ≤ parsed.old.skipped + length words.old) }
+{
+    once(alloc, &parsed.vias, word)?;
+    let said = said_count(words)?;
+    let mut listed = Listed {
+        names: Names::new(alloc),
+        items: Seq::new(alloc),
+        skipped: parsed.skipped,
+    };
+    vias(alloc, words, parsed.total, said, &mut listed)?;
+    parsed.vias = Some(listed.items);
+    parsed.skipped = listed.skipped;
+    Ok(())
+}
+
+/// `COMPONENTS` behind its first word.
+#[tactic(auto, unfolding(crate::specs::Texts::components_section))]
+fn components_section(
+    alloc: Global,
+    words: &mut Words,
+    word: Word,
+    parsed: &mut Parsed,
+) -> Result<(), DefError>
+    requires { IsParsed parsed.old }
+    ensures reads { Reads def_faults (λ _. More parsed.new) result words.old words.new (components_section_form (place_of word.entry) parsed.old) }
+    ensures sound { OnOk result (IsParsed parsed.new) }
+    ensures total { OnOk result (parsed.new.total ≡ parsed.old.total) }
+    ensures few { OnOk result (parsed.new.skipped + length words.new ≤ parsed.old.skipped + length words.old) }
+{
+    once(alloc, &parsed.components, word)?;
+    let said = said_count(words)?;
+    let mut listed = Listed {
+        names: Names::new(alloc),
+        items: Seq::new(alloc),
+        skipped: parsed.skipped,
+    };
+    components(alloc, words, said, &mut listed)?;
+    parsed.components = Some(listed.items);
+    parsed.skipped = listed.skipped;
     Ok(())
 }
 
@@ -95,6 +163,7 @@ fn pins_section(
     requires { IsParsed parsed.old }
     ensures reads { Reads def_faults (λ _. More parsed.new) result words.old words.new (pins_section_form (place_of word.entry) parsed.old) }
     ensures sound { OnOk result (IsParsed parsed.new) }
+    ensures total { OnOk result (parsed.new.total ≡ parsed.old.total) }
     ensures few { OnOk result (parsed.new.skipped + length words.new ≤ parsed.old.skipped + length words.old) }
 {
     once(alloc, &parsed.pins, word)?;
@@ -122,6 +191,7 @@ fn blockages_section(
     requires few { parsed.old.skipped + length words.old ≤ 2 ^ 32 }
     ensures reads { Reads def_faults (λ _. More parsed.new) result words.old words.new (blockages_section_form (place_of word.entry) parsed.old) }
     ensures sound { OnOk result (IsParsed parsed.new) }
+    ensures total { OnOk result (parsed.new.total ≡ parsed.old.total) }
     ensures few { OnOk result (parsed.new.skipped + length words.new ≤ parsed.old.skipped + length words.old) }
 {
     once(alloc, &parsed.blockages, word)?;
@@ -137,6 +207,33 @@ fn blockages_section(
     Ok(())
 }
 
+/// `SPECIALNETS` behind its first word.
+#[tactic(auto, unfolding(crate::specs::Texts::special_section))]
+fn special_section(
+    alloc: Global,
+    words: &mut Words,
+    word: Word,
+    parsed: &mut Parsed,
+) -> Result<(), DefError>
+    requires { IsParsed parsed.old }
+    ensures reads { Reads def_faults (λ _. More parsed.new) result words.old words.new (special_section_form (place_of word.entry) parsed.old) }
+    ensures sound { OnOk result (IsParsed parsed.new) }
+    ensures total { OnOk result (parsed.new.total ≡ parsed.old.total) }
+    ensures few { OnOk result (parsed.new.skipped + length words.new ≤ parsed.old.skipped + length words.old) }
+{
+    once(alloc, &parsed.special, word)?;
+    let said = said_count(words)?;
+    let mut listed = Listed {
+        names: Names::new(alloc),
+        items: Seq::new(alloc),
+        skipped: parsed.skipped,
+    };
+    specials(alloc, words, parsed.total, said, &mut listed)?;
+    parsed.special = Some(listed.items);
+    parsed.skipped = listed.skipped;
+    Ok(())
+}
+
 /// `NETS` behind its first word.
 #[tactic(auto, unfolding(crate::specs::Texts::nets_section))]
 fn nets_section(
@@ -149,6 +246,7 @@ fn nets_section(
     requires few { parsed.old.skipped + length words.old ≤ 2 ^ 32 }
     ensures reads { Reads def_faults (λ _. More parsed.new) result words.old words.new (nets_section_form (place_of word.entry) parsed.old) }
     ensures sound { OnOk result (IsParsed parsed.new) }
+    ensures total { OnOk result (parsed.new.total ≡ parsed.old.total) }
     ensures few { OnOk result (parsed.new.skipped + length words.new ≤ parsed.old.skipped + length words.old) }
 {
     once(alloc, &parsed.nets, word)?;
@@ -158,7 +256,7 @@ fn nets_section(
         items: Seq::new(alloc),
         skipped: parsed.skipped,
     };
-    nets(alloc, words, said, &mut listed)?;
+    nets(alloc, words, parsed.total, said, &mut listed)?;
     parsed.nets = Some(listed.items);
     parsed.skipped = listed.skipped;
     Ok(())
@@ -171,6 +269,7 @@ pub fn statement(alloc: Global, words: &mut Words, parsed: &mut Parsed) -> Resul
     requires few { parsed.old.skipped + length words.old ≤ 2 ^ 32 }
     ensures reads { Reads def_faults (λ last. turn last parsed.new) result words.old words.new (statement_form parsed.old) }
     ensures sound { OnOk result (IsParsed parsed.new) }
+    ensures total { OnOk result (parsed.new.total ≡ parsed.old.total) }
     ensures few { OnOk result (parsed.new.skipped + length words.new ≤ parsed.old.skipped + length words.old) }
 {
     let word = words.next()?;
@@ -187,12 +286,24 @@ pub fn statement(alloc: Global, words: &mut Words, parsed: &mut Parsed) -> Resul
             tracks_statement(alloc, words, parsed)?;
             Ok(false)
         }
+        Statement::Vias => {
+            vias_section(alloc, words, word, parsed)?;
+            Ok(false)
+        }
+        Statement::Components => {
+            components_section(alloc, words, word, parsed)?;
+            Ok(false)
+        }
         Statement::Pins => {
             pins_section(alloc, words, word, parsed)?;
             Ok(false)
         }
         Statement::Blockages => {
             blockages_section(alloc, words, word, parsed)?;
+            Ok(false)
+        }
+        Statement::Special => {
+            special_section(alloc, words, word, parsed)?;
             Ok(false)
         }
         Statement::Nets => {
@@ -211,9 +322,9 @@ pub fn statement(alloc: Global, words: &mut Words, parsed: &mut Parsed) -> Resul
             words.up_to(b"ENDEXT")?;
             Ok(false)
         }
-        Statement::Later => Err(DefError::NotYet { line: word.line }),
         Statement::End => {
             words.expect(b"DESIGN")?;
+            parsed.end = word.line;
             Ok(true)
         }
         Statement::Other => Err(DefError::Unknown { line: word.line }),
@@ -235,6 +346,7 @@ pub fn finished(alloc: Global, parsed: Parsed) -> Result<Def, DefError>
     requires { IsParsed parsed }
     ensures gives { Gives def_faults (λ x. x) result (finished_of parsed) }
     ensures sound { IfOk result (λ d. IsDef d) }
+    ensures ranges { IfOk result (λ d. AreRanges parsed.total d) }
 {
     let Some(units) = parsed.units else {
         return Err(DefError::Missing {
@@ -250,12 +362,60 @@ pub fn finished(alloc: Global, parsed: Parsed) -> Result<Def, DefError>
         units,
         die,
         tracks: parsed.tracks,
-        vias: Seq::new(alloc),
-        components: Seq::new(alloc),
+        vias: or_none(alloc, parsed.vias),
+        components: or_none(alloc, parsed.components),
         pins: or_none(alloc, parsed.pins),
         blockages: or_none(alloc, parsed.blockages),
-        special: Seq::new(alloc),
+        special: or_none(alloc, parsed.special),
         nets: or_none(alloc, parsed.nets),
         skipped: parsed.skipped,
     })
+}
+
+/// Whether a connection is to a pin of the design.
+fn is_io(pin: &(Name, Name)) -> bool
+    ensures { result ≡ bytes_eq pin.now.0 (codes "PIN") }
+{
+    pin.0.bytes() == b"PIN".as_slice()
+}
+
+/// Whether connections are to pins of the design alone.
+fn are_io(pins: &[(Name, Name)]) -> bool
+    ensures { result ≡ list_all (λ (c : List ℕ × List ℕ). bytes_eq c.0 (codes "PIN")) pins.now }
+{
+    pins.iter().all(|pin| is_io(pin))
+}
+
+/// Whether a net has no wiring, and connections to pins of the design alone.
+fn is_plain(net: &DefNet) -> bool
+    ensures { result ≡ is_plain_of net.now }
+{
+    net.wiring.len() == 0 && are_io(net.pins.as_slice())
+}
+
+/// Whether nets are so.
+fn are_plain(nets: &[DefNet]) -> bool
+    ensures { result ≡ list_all is_plain_of nets.now }
+{
+    nets.iter().all(|net| is_plain(net))
+}
+
+/// Whether a design is built from all that a text says.
+fn is_built(def: &Def) -> bool
+    ensures { result ≡ is_built_of def.now }
+{
+    def.vias.len() == 0
+        && def.components.len() == 0
+        && def.special.len() == 0
+        && are_plain(def.nets.as_slice())
+}
+
+/// Refuses a text, whose END has this line, from all of which no design is built yet.
+pub fn built(line: u32, def: &Def) -> Result<(), DefError>
+    ensures { Gives def_faults (λ x. x) result (built_of line def.now) }
+{
+    if !is_built(def) {
+        return Err(DefError::NotYet { line });
+    }
+    Ok(())
 }

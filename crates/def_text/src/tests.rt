@@ -1,6 +1,12 @@
 //! Texts that are read, and damaged ones.
-use crate::{Def, DefError, read_def, read_units};
-use rt_base::{Name, Point, Rect, Seq};
+ghost use Rattle.std.specs.Prelude.{◌<◌, ◌^◌, length};
+ghost use Rattle.rt_base.specs.Scan.{IsCutInto};
+
+use crate::parts::Words;
+use crate::read::{nothing_read, statements};
+use crate::statements::finished;
+use crate::{Def, DefError, DefNet, read_def, read_units};
+use rt_base::{Name, Orient, Point, Rect, Seq, Token, tokens};
 use std::alloc::Global;
 use std::test::Fail;
 
@@ -26,6 +32,55 @@ fn read(alloc: Global, text: &str) -> Result<Def, DefError> {
         return Err(DefError::Memory);
     }
     read_def(alloc, bytes)
+}
+
+/// What a text with these tokens says, also where no design is built from all of it yet.
+fn said_tokens(alloc: Global, bytes: &[u8], tokens: &[Token]) -> Result<Def, DefError>
+    requires text { length bytes.now < 2 ^ 32 }
+    requires tokens { IsCutInto bytes.now tokens.now }
+{
+    let mut words = Words::new(bytes, tokens);
+    let mut parsed = nothing_read(alloc, tokens.len() as u32);
+    statements(alloc, &mut words, &mut parsed)?;
+    finished(alloc, parsed)
+}
+
+/// The tokens of a text, and what it says.
+fn said(alloc: Global, bytes: &[u8]) -> Result<(Seq<Token>, Def), DefError> {
+    if bytes.len() > 100_000 {
+        return Err(DefError::Memory);
+    }
+    match tokens(alloc, bytes) {
+        Ok(tokens) => {
+            let def = said_tokens(alloc, bytes, tokens.as_slice())?;
+            Ok((Seq::from_vec(tokens), def))
+        }
+        Err(_) => Err(DefError::Memory),
+    }
+}
+
+/// The words of a range of tokens are these.
+fn is_range(bytes: &[u8], tokens: &[Token], range: (u32, u32), want: &str) -> bool {
+    let (Some(first), Some(last)) = (
+        tokens.get(range.0 as usize),
+        tokens.get((range.1 as usize).saturating_sub(1)),
+    ) else {
+        return false;
+    };
+    bytes.get(first.first as usize..last.past as usize) == Some(want.as_bytes())
+}
+
+/// The wiring of a net stands in these ranges.
+fn has_wiring(bytes: &[u8], tokens: &[Token], net: &DefNet, want: &[&str]) -> bool {
+    if net.wiring.len() != want.len() {
+        return false;
+    }
+    for (range, words) in net.wiring.as_slice().iter().zip(want) {
+        if !is_range(bytes, tokens, *range, words) {
+            return false;
+        }
+    }
+    true
 }
 
 fn same(name: &Name, text: &str) -> bool {
@@ -145,6 +200,213 @@ NETS 1 ; - n ( PIN p + SYNTHESIZED ) + NONDEFAULTRULE r + USE SIGNAL ; END NETS 
 }
 
 #[test]
+fn pins_are_turned(rt: HostRuntime) -> Result<(), Fail> {
+    let def = read(
+        rt.alloc(),
+        "UNITS DISTANCE MICRONS 1 ; DIEAREA ( 0 0 ) ( 1 1 ) ; PINS 8 ;
+- a + LAYER M ( 1 2 ) ( 4 8 ) + PLACED ( 100 200 ) N ;
+- b + LAYER M ( 1 2 ) ( 4 8 ) + FIXED ( 100 200 ) W ;
+- c + LAYER M ( 1 2 ) ( 4 8 ) + COVER ( 100 200 ) S ;
+- d + LAYER M ( 1 2 ) ( 4 8 ) + PLACED ( 100 200 ) E ;
+- e + LAYER M ( 1 2 ) ( 4 8 ) + PLACED ( 100 200 ) FN ;
+- f + LAYER M ( 1 2 ) ( 4 8 ) + PLACED ( 100 200 ) FS ;
+- g + LAYER M ( 1 2 ) ( 4 8 ) + PLACED ( 100 200 ) FW ;
+- h + LAYER M ( 1 2 ) ( 4 8 ) + PLACED ( 100 200 ) FE ;
+END PINS END DESIGN",
+    )?;
+    for (pin, (xl, yl, xh, yh)) in def.pins.as_slice().iter().zip([
+        (101, 202, 104, 208),
+        (92, 201, 98, 204),
+        (96, 192, 99, 198),
+        (102, 196, 108, 199),
+        (96, 202, 99, 208),
+        (101, 192, 104, 198),
+        (102, 201, 108, 204),
+        (92, 196, 98, 199),
+    ]) {
+        assert!(rt;
+            is_metal(
+                &pin.rects,
+                "M",
+                Point { x: xl, y: yl },
+                Point { x: xh, y: yh }
+            )
+        );
+    }
+    assert_eq!(rt; def.pins.len(), 8);
+    Ok(())
+}
+
+#[test]
+fn components_are_read(rt: HostRuntime) -> Result<(), Fail> {
+    let alloc = rt.alloc();
+    let text = b"UNITS DISTANCE MICRONS 1 ; DIEAREA ( 0 0 ) ( 1 1 ) ; COMPONENTS 4 ;
+- u1 INV + SOURCE NETLIST + PLACED ( 10 -20 ) N ; - u2 BUF ;
+- u3 INV + FIXED ( 1 2 ) FW + COVER ( 3 4 ) FE + WEIGHT 2 ; - u4 INV + UNPLACED + ;
+END COMPONENTS NETS 1 ; - n ( u1 A ) ( PIN p ) ; END NETS END DESIGN";
+    let (tokens, def) = said(alloc, text)?;
+    for (component, (name, of, placed)) in def.components.as_slice().iter().zip([
+        ("u1", "INV", Some((Point { x: 10, y: -20 }, Orient::N))),
+        ("u2", "BUF", None),
+        ("u3", "INV", Some((Point { x: 3, y: 4 }, Orient::FE))),
+        ("u4", "INV", None),
+    ]) {
+        assert!(rt; same(&component.name, name) && same(&component.of, of));
+        assert!(rt; component.placed == placed);
+    }
+    assert_eq!(rt; def.components.len(), 4);
+    match def.nets.as_slice() {
+        [net] => match net.pins.as_slice() {
+            [first, second] => {
+                assert!(rt; same(&first.0, "u1") && same(&first.1, "A"));
+                assert!(rt; same(&second.0, "PIN") && same(&second.1, "p"));
+            }
+            _ => assert!(rt; false),
+        },
+        _ => assert!(rt; false),
+    }
+    Ok(())
+}
+
+#[test]
+fn vias_are_ranges(rt: HostRuntime) -> Result<(), Fail> {
+    let alloc = rt.alloc();
+    let text = b"VIAS 3 ; - V + RECT M ( 0 0 )
+( 1 1 ) ; - W ; - X + VIARULE r ; END VIAS
+UNITS DISTANCE MICRONS 1 ; DIEAREA ( 0 0 ) ( 1 1 ) ; END DESIGN";
+    let (tokens, def) = said(alloc, text)?;
+    match def.vias.as_slice() {
+        [v, w, x] => {
+            assert!(rt; same(&v.name, "V") && same(&w.name, "W") && same(&x.name, "X"));
+            assert_eq!(rt; v.tokens, (5, 16));
+            assert_eq!(rt; w.tokens, (19, 19));
+            assert_eq!(rt; x.tokens, (22, 25));
+        }
+        _ => assert!(rt; false),
+    }
+    Ok(())
+}
+
+#[test]
+fn wiring_is_ranges(rt: HostRuntime) -> Result<(), Fail> {
+    let alloc = rt.alloc();
+    let text = b"UNITS DISTANCE MICRONS 1 ; DIEAREA ( 0 0 ) ( 1 1 ) ; NETS 4 ;
+- a + ROUTED M1 ( 0 0 ) ( 5 * ) NEW M2 ( 5 0 ) V + USE SIGNAL + FIXED M1 ( 1 1 ) V ;
+- b ( PIN p ) + NOSHIELD + COVER M ;
+- c + SHAPE A + VIA V ;
+- d + ROUTED M ( 0 0 ) + SHAPE A ; END NETS END DESIGN";
+    let (tokens, def) = said(alloc, text)?;
+    match def.nets.as_slice() {
+        [a, b, c, d] => {
+            let cut = tokens.as_slice();
+            assert!(rt;
+                has_wiring(
+                    text,
+                    cut,
+                    a,
+                    &["M1 ( 0 0 ) ( 5 * ) NEW M2 ( 5 0 ) V", "M1 ( 1 1 ) V"]
+                )
+            );
+            assert!(rt; has_wiring(text, cut, b, &["+ NOSHIELD", "M"]));
+            assert!(rt; has_wiring(text, cut, c, &[]));
+            assert!(rt; has_wiring(text, cut, d, &["M ( 0 0 )"]));
+        }
+        _ => assert!(rt; false),
+    }
+    Ok(())
+}
+
+#[test]
+fn special_wiring_is_ranges(rt: HostRuntime) -> Result<(), Fail> {
+    let alloc = rt.alloc();
+    let text = b"UNITS DISTANCE MICRONS 1 ; DIEAREA ( 0 0 ) ( 1 1 ) ; SPECIALNETS 16 ;
+- a ( * VDD + SYNTHESIZED ) + ROUTED M 100 ( 0 0 ) ( 9 * ) NEW M 0 ( 1 1 ) V + USE POWER ;
+- b ( u1 * ) + ROUTED M 100 + SHAPE STRIPE ( 0 0 ) ( 9 * ) ;
+- c + ROUTED M 1 ( 0 0 ) + SHAPE A + RECT M ( 0 0 ) ( 1 1 ) ;
+- d + ROUTED + RECT M ( 0 0 ) ( 1 1 ) ;
+- e + FIXED + SHAPE A + VIA V ( 0 0 ) ;
+- f + SHAPE A + VIA V ( 0 0 ) + COVER ;
+- g + SHAPE ( + RECT M ;
+- h + SHAPE A B + RECT M ;
+- i + SHAPE A + SHAPE B + RECT M ;
+- j + ROUTED + SHAPE A + SHAPE B + RECT M ;
+- k + ROUTED + SHAPE A ;
+- l + ROUTED + SHAPE A ( 0 0 ) ;
+- m + ROUTED + MASK 1 + RECT M ;
+- n + RECT M + SHAPE A + USE x ;
+- o + RECT M + SHAPE A + VIA V ;
+- p + STYLE 1 + SHAPE A + USE ; END SPECIALNETS END DESIGN";
+    let (tokens, def) = said(alloc, text)?;
+    let wanted: [&[&str]; 16] = [
+        &["M 100 ( 0 0 ) ( 9 * ) NEW M 0 ( 1 1 ) V"],
+        &["M 100 + SHAPE STRIPE ( 0 0 ) ( 9 * )"],
+        &["M 1 ( 0 0 )", "+ SHAPE A + RECT M ( 0 0 ) ( 1 1 )"],
+        &["+ ROUTED + RECT M ( 0 0 ) ( 1 1 )"],
+        &["+ FIXED + SHAPE A + VIA V ( 0 0 )"],
+        &["+ SHAPE A + VIA V ( 0 0 )", "+ COVER"],
+        &["+ RECT M"],
+        &["+ RECT M"],
+        &["+ SHAPE B + RECT M"],
+        &["+ SHAPE A", "+ SHAPE B + RECT M"],
+        &["+ SHAPE A"],
+        &["+ SHAPE A ( 0 0 )"],
+        &["+ ROUTED", "+ RECT M"],
+        &["+ RECT M + SHAPE A"],
+        &["+ RECT M", "+ SHAPE A + VIA V"],
+        &[],
+    ];
+    for (net, want) in def.special.as_slice().iter().zip(wanted) {
+        assert!(rt; net.pins.is_empty() && has_wiring(text, tokens.as_slice(), net, want));
+    }
+    assert_eq!(rt; def.special.len(), 16);
+    Ok(())
+}
+
+#[test]
+fn polygons_are_cut(rt: HostRuntime) -> Result<(), Fail> {
+    let def = read(
+        rt.alloc(),
+        "UNITS DISTANCE MICRONS 1 ; DIEAREA ( 0 0 ) ( 1 1 ) ; BLOCKAGES 2 ;
+- LAYER M + PUSHDOWN POLYGON ( 0 0 ) ( 4 0 ) ( 4 2 ) ( 2 2 ) ( 2 4 ) ( 0 4 ) RECT ( 9 9 ) ( 8 8 ) ;
+- LAYER N + FILLS POLYGON ( 0 0 ) ( 4 0 ) ( 4 2 ) ( 0 2 ) ; END BLOCKAGES END DESIGN",
+    )?;
+    for (blockage, (xl, yl, xh, yh)) in def
+        .blockages
+        .as_slice()
+        .iter()
+        .zip([(0, 0, 4, 2), (0, 2, 2, 4), (8, 8, 9, 9)])
+    {
+        assert!(rt; same(&blockage.0, "M"));
+        assert!(rt; blockage.1 == Rect::hull(Point { x: xl, y: yl }, Point { x: xh, y: yh }));
+    }
+    assert_eq!(rt; def.blockages.len(), 3);
+    Ok(())
+}
+
+#[test]
+fn a_text_cut_short_is_unended(rt: HostRuntime) -> Result<(), Fail> {
+    let alloc = rt.alloc();
+    let bytes = DESIGN.as_bytes();
+    let Ok(tokens) = tokens(alloc, bytes) else {
+        assert!(rt; false);
+        return Ok(());
+    };
+    for token in tokens.as_slice() {
+        let Some(cut) = bytes.get(..token.past as usize) else {
+            assert!(rt; false);
+            return Ok(());
+        };
+        match read_def(alloc, cut) {
+            Ok(_) => assert!(rt; token.past == 379),
+            Err(error) => assert!(rt;
+                matches!(error, DefError::Unended { line } if line == token.line)
+            ),
+        }
+    }
+    Ok(())
+}
+
+#[test]
 fn damaged_texts_are_refused(rt: HostRuntime) -> Result<(), Fail> {
     let alloc = rt.alloc();
     for (text, want) in [
@@ -205,14 +467,10 @@ fn damaged_texts_are_refused(rt: HostRuntime) -> Result<(), Fail> {
             "NETS 1 ;\n- a\n( PIN p )\n( PIN q )\n( PIN r ) ;",
             "line 5: not yet",
         ),
-        ("NETS 1 ;\n- a\n( u1 A ) ;", "line 3: not yet"),
-        ("NETS 1 ;\n- a\n+ ROUTED", "line 3: not yet"),
-        ("VIAS 1 ;", "line 1: not yet"),
         (
             "BLOCKAGES 1 ; - LAYER M1\n;",
             "line 2: another word is expected",
         ),
-        ("BLOCKAGES 1 ; - LAYER M1\nPOLYGON", "line 2: not yet"),
         ("BLOCKAGES 1 ; END", "BLOCKAGES says 1 and has 0"),
         ("END DESIGN", "units is missing"),
         (
@@ -224,6 +482,176 @@ fn damaged_texts_are_refused(rt: HostRuntime) -> Result<(), Fail> {
             "line 2: another word is expected",
         ),
         ("\"", "line 1: a quote isn't closed"),
+        ("VERSION 5.8 ;\n# \x07", "line 2: a byte that isn't text"),
+        ("DIEAREA\n0", "line 2: another word is expected"),
+        ("DIEAREA ( 0\nx", "line 2: not a number"),
+        (
+            "DIEAREA ( 0 0 ) ( 2 2 )\n+",
+            "line 2: another word is expected",
+        ),
+        (
+            "DIEAREA ( 0 0 ) ( 2 2 ) ;\n\nDIEAREA",
+            "line 3: DIEAREA stands twice",
+        ),
+        ("UNITS\nMICRONS", "line 2: another word is expected"),
+        (
+            "UNITS DISTANCE MICRONS 1\n1 ;",
+            "line 2: another word is expected",
+        ),
+        (
+            "TRACKS X 1 DO 1073741825",
+            "line 1: a number above 2^30 units",
+        ),
+        ("TRACKS X 1\nSTEP", "line 2: another word is expected"),
+        ("END\nPINS", "line 2: another word is expected"),
+        ("REGIONS 0 ; END\nGROUPS", "line 2: the text ends"),
+        ("BEGINEXT \"a\nb\"", "line 1: the text ends"),
+        ("- a ;", "line 1: no such statement"),
+        ("VIAS", "line 1: the text ends"),
+        ("VIAS 1 ;\n- V + RECT M1 ( 0 0 )", "line 2: the text ends"),
+        ("VIAS 2 ;\n- V ;\n- W ;\n- V", "line 4: V stands twice"),
+        ("VIAS 2 ;\n- V ;\nEND VIAS", "VIAS says 2 and has 1"),
+        ("VIAS 1 ;\n- ;", "line 2: another word is expected"),
+        ("VIAS 1 ;\n\nV", "line 3: another word is expected"),
+        ("VIAS 0 ; END VIAS\nVIAS", "line 2: VIAS stands twice"),
+        ("COMPONENTS x", "line 1: not a number"),
+        (
+            "COMPONENTS 1 ;\n- u1\n+",
+            "line 3: another word is expected",
+        ),
+        (
+            "COMPONENTS 1 ;\n- u1 INV\nPLACED",
+            "line 3: another word is expected",
+        ),
+        (
+            "COMPONENTS 1 ;\n- u1 INV + PLACED\n10",
+            "line 3: another word is expected",
+        ),
+        (
+            "COMPONENTS 1 ;\n- u1 INV + FIXED ( 1\n* )",
+            "line 3: not a number",
+        ),
+        (
+            "COMPONENTS 1 ;\n- u1 INV + COVER ( 1 2 )\nR90",
+            "line 3: another word is expected",
+        ),
+        (
+            "COMPONENTS 1 ;\n- u1 INV + PLACED ( 1 2 )\n;",
+            "line 3: another word is expected",
+        ),
+        (
+            "COMPONENTS 2 ;\n- u1 INV ;\n- u1",
+            "line 3: u1 stands twice",
+        ),
+        (
+            "COMPONENTS 1 ;\n- u1 INV ;\n- u2 INV ;\nEND COMPONENTS",
+            "COMPONENTS says 1 and has 2",
+        ),
+        (
+            "COMPONENTS 1 ;\n- u1 INV ; END\nCOMPONENT",
+            "line 3: another word is expected",
+        ),
+        ("PINS 1 ;\n- p + VIA", "line 2: VIA is refused"),
+        ("PINS 1 ;\n- p\n+ MASK", "line 3: MASK is refused"),
+        (
+            "PINS 1 ;\n- p + LAYER M1 SPACING\nx",
+            "line 3: not a number",
+        ),
+        (
+            "PINS 1 ;\n- p + LAYER M1 ( 0 0 )\n+",
+            "line 3: another word is expected",
+        ),
+        ("PINS 1 ;\n- p NET", "line 2: another word is expected"),
+        ("BLOCKAGES 1 ;\n- M1", "line 2: another word is expected"),
+        (
+            "BLOCKAGES 1 ;\n- LAYER M1 + SPACING\nRECT",
+            "line 3: not a number",
+        ),
+        (
+            "BLOCKAGES 1 ;\n- LAYER M1 RECT ( 0 0 ) ( 1 1 )\nPATH",
+            "line 3: another word is expected",
+        ),
+        (
+            "BLOCKAGES 1 ;\n- LAYER M1\nPOLYGON ( 0 0 ) ( 1 0 ) ( 1 1 )\n;",
+            "line 4: another word is expected",
+        ),
+        (
+            "BLOCKAGES 1 ;\n- LAYER M1\nPOLYGON ( 0 0 ) ( 1 0 ) ( 1 1 ) ( 0 2 )\n;",
+            "line 3: POLYGON is refused",
+        ),
+        (
+            "BLOCKAGES 1 ;\n- LAYER M1\nPOLYGON ( 0 0 ) ( 1 0 ) ( 1 1 ) ( 0 2 )",
+            "line 3: the text ends",
+        ),
+        (
+            "BLOCKAGES 1 ;\n- LAYER M1\nPOLYGON ( 0 0 ) ( 1 0 ) ( 1 1 ) ( 0 1 ) RECT\n1",
+            "line 4: another word is expected",
+        ),
+        (
+            "SPECIALNETS 1 ;\n- VDD (\n- VDD )",
+            "line 3: another word is expected",
+        ),
+        (
+            "SPECIALNETS 1 ;\n- VDD ( * )",
+            "line 2: another word is expected",
+        ),
+        (
+            "SPECIALNETS 1 ;\n- VDD ( * VDD\n+ MUSTJOIN",
+            "line 3: another word is expected",
+        ),
+        (
+            "SPECIALNETS 1 ;\n- VDD + SHIELD x",
+            "line 2: SHIELD is refused",
+        ),
+        (
+            "SPECIALNETS 1 ;\n- VDD\n+ POLYGON",
+            "line 3: POLYGON is refused",
+        ),
+        (
+            "SPECIALNETS 1 ;\n- VDD + ROUTED M 1\n+ STYLE 1",
+            "line 3: STYLE is refused",
+        ),
+        (
+            "SPECIALNETS 1 ;\n- VDD + RECT M + SHAPE A\n+ STYLE",
+            "line 3: STYLE is refused",
+        ),
+        (
+            "SPECIALNETS 1 ;\n- VDD + ROUTED M 1 + SHAPE\n( 0 0 )",
+            "line 3: another word is expected",
+        ),
+        (
+            "SPECIALNETS 1 ;\n- VDD + FIXED + SHAPE\n;",
+            "line 3: another word is expected",
+        ),
+        (
+            "SPECIALNETS 1 ;\n- VDD + ROUTED M 1 ( 0 0 )",
+            "line 2: the text ends",
+        ),
+        (
+            "SPECIALNETS 2 ;\n- VDD ;\n- VDD",
+            "line 3: VDD stands twice",
+        ),
+        (
+            "SPECIALNETS 0 ;\nEND SPECIALNETS SPECIALNETS",
+            "line 2: SPECIALNETS stands twice",
+        ),
+        (
+            "NETS 1 ;\n- a ( u1\n* )",
+            "line 3: another word is expected",
+        ),
+        (
+            "NETS 1 ;\n- a ( u1 A\nB",
+            "line 3: another word is expected",
+        ),
+        (
+            "NETS 1 ;\n- a + NONDEFAULTRULE\n;",
+            "line 3: another word is expected",
+        ),
+        ("NETS 2 ;\n- a ;\n- a", "line 3: a stands twice"),
+        (
+            "NETS 1 ;\n- a + ROUTED M1 ( 0 0 )\n( 1 * )",
+            "line 3: the text ends",
+        ),
     ] {
         match read(alloc, text) {
             Ok(_) => assert!(rt; false, "{text}"),
@@ -232,6 +660,30 @@ fn damaged_texts_are_refused(rt: HostRuntime) -> Result<(), Fail> {
                 assert_eq!(rt; said.as_str(), want, "{text}");
             }
         }
+    }
+    Ok(())
+}
+
+#[test]
+fn what_is_not_built_yet_is_refused_at_the_end(rt: HostRuntime) -> Result<(), Fail> {
+    let alloc = rt.alloc();
+    for text in [
+        "VIAS 1 ; - V ; END VIAS",
+        "COMPONENTS 1 ; - u1 INV ; END COMPONENTS",
+        "SPECIALNETS 1 ; - VDD ; END SPECIALNETS",
+        "NETS 1 ; - a ( u1 A ) ; END NETS",
+        "NETS 1 ; - a ( PIN p ) + ROUTED ; END NETS",
+    ] {
+        let whole = format!(in alloc;
+            "UNITS DISTANCE MICRONS 1 ;\n{text} DIEAREA ( 0 0 ) ( 1 1 ) ;\nEND\nDESIGN"
+        )?;
+        assert!(rt;
+            matches!(
+                read(alloc, whole.as_str()),
+                Err(DefError::NotYet { line: 3 })
+            ),
+            "{text}"
+        );
     }
     Ok(())
 }

@@ -1,4 +1,4 @@
-use Rattle.std.proofs.Common.{arith}
+use Rattle.std.proofs.Common.{arith, ◌∙◌}
 use Rattle.rt_forms.proofs.Loops.{runs_more, runs_done, runs_err}
 use Rattle.def_text.proofs.read.before_units.Goals as goal
 
@@ -9,6 +9,7 @@ pub statements-preserved : goal.statements-preserved
 statements-preserved c = record {
   runs = runs_more c.statements.invariant.runs c.in_ok-until_units.ensures.reads c.if-not-branch.true;
   sound = c.in_ok-until_units.ensures.sound;
+  total = c.in_ok-until_units.ensures.total ∙ c.statements.invariant.total;
   few = omega (arith, c.in_ok-until_units.ensures.few, c.statements.invariant.few);
 }
 

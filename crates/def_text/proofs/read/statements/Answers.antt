@@ -1,4 +1,4 @@
-use Rattle.std.proofs.Common.{arith}
+use Rattle.std.proofs.Common.{arith, ◌∙◌}
 use Rattle.rt_forms.proofs.Loops.{runs_more, runs_done, runs_err}
 use Rattle.def_text.proofs.read.statements.Goals as goal
 
@@ -9,6 +9,7 @@ pub statements-preserved : goal.statements-preserved
 statements-preserved c = record {
   runs = runs_more c.statements.invariant.runs c.in_ok-statement.ensures.reads c.if-not-branch.true;
   sound = c.in_ok-statement.ensures.sound;
+  total = c.in_ok-statement.ensures.total ∙ c.statements.invariant.total;
   few = omega (arith, c.in_ok-statement.ensures.few, c.statements.invariant.few);
 }
 
