@@ -1,9 +1,11 @@
 -- Lists: what is found in them, names that are apart, and lists that correspond item by item.
-use Rattle.std.proofs.Common.{◌≡◌, ◌≢◌, ℕ, zero, suc, ◌+◌, ◌<◌, List, [], ◌∷◌, ◌++◌, length, get_or, take, map, Bool, true, false, Option, Some, None, All, AllPairs, cond, refl, sym, ap, subst, ◌∙◌, inl, inr, arith, bytes_eq, position, is_some}
+use Rattle.std.proofs.Common.{◌≡◌, ◌≢◌, ℕ, zero, suc, ◌+◌, ◌<◌, ◌≤◌, List, [], ◌∷◌, ◌++◌, length, get_or, take, map, Bool, true, false, ◌||◌, Option, Some, None, All, AllPairs, cond, slice_get, option_and_then, refl, sym, ap, subst, ◌∙◌, inl, inr, arith, bytes_eq, position, is_some}
 use Rattle.std.specs.Option.{option_or}
-use Rattle.std.specs.List.{find, AllZip, list_any, position_from, enumerate_from}
-use Rattle.std.proofs.lemmas.Bool.{cases_Bool}
-use Rattle.std.proofs.lemmas.Option.{same_Some}
+use Rattle.std.specs.List.{find, AllZip, list_any, position_from, position_or_len, enumerate_from}
+use Rattle.std.proofs.lemmas.Bool.{cases_Bool, cases_lt, lt-ltb, le-ltb}
+use Rattle.std.proofs.lemmas.Option.{same_Some, slice_get_past}
+use Rattle.std.proofs.lemmas.List.{take_more}
+use Rattle.std.proofs.lemmas.List.Folds.{list_any-append, find_at}
 use Rattle.std.proofs.lemmas.Iterator.Adapters.{position_from-zero}
 use Rattle.std.proofs.lemmas.List.Elements.{All-head, All-tail}
 use Rattle.rt_words.proofs.Words.{unequal}
@@ -72,3 +74,37 @@ AllZip-weaker R S f (a ∷ as') (b ∷ bs) h = (f a b h.0, AllZip-weaker R S f a
 pub enumerate_from-more : {X : Type 0} → (n : ℕ) (xs : List X) (x : X) → enumerate_from n (xs ++ x ∷ []) ≡ enumerate_from n xs ++ (n + length xs, x) ∷ []
 enumerate_from-more n [] x = ap (λ (k : ℕ). (k, x) ∷ []) (omega arith)
 enumerate_from-more n (y ∷ ys) x = ap (λ (zs : List (ℕ × _)). (n, y) ∷ zs) (enumerate_from-more (n + 1) ys x ∙ ap (λ (k : ℕ). enumerate_from (n + 1) ys ++ (k, x) ∷ []) (omega arith))
+
+-- what is found, by its place
+pub found_place : {X : Type 0} → (p : X → Bool) (xs : List X) → find p xs ≡ option_and_then (slice_get xs) (position p xs)
+found_place {X} p xs =
+    find_at p xs
+    ∙ elim (cases_lt (position_or_len p xs) (length xs)) [
+      | inl within ↦ rw (lt-ltb (position_or_len p xs) (length xs) within) refl
+      | inr past ↦ rw (le-ltb (length xs) (position_or_len p xs) past) (slice_get_past xs (position_or_len p xs) past)
+    ]
+
+-- what stands before an item, and the item
+pub next : {X : Type 0} → (xs : List X) (i : ℕ) (x : X) → i < length xs → x ≡ get_or xs i x → take (i + 1) xs ≡ take i xs ++ x ∷ []
+next {X} xs i x within at = take_more xs i x within ∙ ap (λ (y : X). take i xs ++ y ∷ []) (sym at)
+
+pub taken_more : {A B : Type 0} → (R : A → B → Type 0) (xs : List A) (i : ℕ) (x : A) (ys : List B) (y : B) → i < length xs → x ≡ get_or xs i x → AllZip R (take i xs) ys → R x y → AllZip R (take (i + 1) xs) (ys ++ y ∷ [])
+taken_more {A} {B} R xs i x ys y within at h r = subst (λ (zs : List A). AllZip R zs (ys ++ y ∷ [])) (sym (next xs i x within at)) (AllZip-more R (take i xs) ys x y h r)
+
+pub or-false : (b : Bool) → (b || false) ≡ b
+or-false true = refl
+or-false false = refl
+
+-- whether one of these, or one more, passes
+pub any_more : {X : Type 0} → (p : X → Bool) (xs : List X) (i : ℕ) (x : X) → i < length xs → x ≡ get_or xs i x → list_any p (take (i + 1) xs) ≡ (list_any p (take i xs) || p x)
+any_more p xs i x within at =
+    ap (list_any p) (next xs i x within at)
+    ∙ list_any-append p (take i xs) (x ∷ [])
+    ∙ ap (λ (b : Bool). list_any p (take i xs) || b) (or-false (p x))
+
+-- partners at one place
+pub AllZip-at : {A B : Type 0} → (R : A → B → Type 0) (xs : List A) (ys : List B) (k : ℕ) (x : A) (y : B) → AllZip R xs ys → slice_get xs k ≡ Some x → slice_get ys k ≡ Some y → R x y
+AllZip-at R [] ys k x y h a b = cc
+AllZip-at R (a ∷ as') [] k x y h s t = absurd h
+AllZip-at {A} {B} R (a ∷ as') (b ∷ bs) zero x y h s t = subst (λ (z : A). R z y) (same_Some a x s) (subst (R a) (same_Some b y t) h.0)
+AllZip-at R (a ∷ as') (b ∷ bs) (suc k) x y h s t = AllZip-at R as' bs k x y h.1 s t

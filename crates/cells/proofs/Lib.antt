@@ -1,0 +1,4 @@
+pub mod FirstLemmas
+pub mod KeyLemmas
+pub mod Lists
+pub mod Placing
