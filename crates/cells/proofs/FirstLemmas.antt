@@ -7,6 +7,8 @@ use Rattle.std.proofs.lemmas.List.{length-take-le}
 use Rattle.std.proofs.lemmas.List.Quantifiers.{position-Some}
 use Rattle.std.proofs.lemmas.Option.{slice_get_cases, slice_get_past}
 use Rattle.rt_words.proofs.Words.{same}
+use Rattle.cells.specs.declared.firsts.Firsts.{Firsts}
+use Rattle.cells.specs.Firsts.{ArePaired, first_in, ArePlaces}
 use Rattle.cells.proofs.Lists.{is_some-position, position-push, next}
 
 -- the number beside a name
@@ -80,3 +82,14 @@ pub claimed_twice : {N : Type 0} → (o : Option N) (a b : Bool) (n : N) → opt
 claimed_twice (Some m) a b n = refl
 claimed_twice None true b n = refl
 claimed_twice None false b n = refl
+
+-- an item's name is claimed for its place
+pub claims_more : {X : Type 0} → (name : X → List ℕ) (items : List X) (i : ℕ) (x : X) (old new : Firsts ℕ) (bytes : List ℕ) → i < length items → x ≡ get_or items i x → bytes ≡ name x → ArePlaces name (take i items) old → ArePaired new → ((q : List ℕ) → first_in new q ≡ option_or (first_in old q) (cond (bytes_eq q bytes) (Some i) None)) → ArePlaces name (take (i + 1) items) new
+claims_more name items i x old new bytes within at same h paired claimed = record {
+  paired = paired;
+  places = λ q.
+      claimed q
+      ∙ ap (λ (b : List ℕ). option_or (first_in old q) (cond (bytes_eq q b) (Some i) None)) same
+      ∙ ap (λ (o : Option ℕ). option_or o (cond (bytes_eq q (name x)) (Some i) None)) (h.places q)
+      ∙ sym (place_more (λ y. bytes_eq q (name y)) items i x within at);
+}

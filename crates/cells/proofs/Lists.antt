@@ -81,7 +81,7 @@ found_place {X} p xs =
     find_at p xs
     ∙ elim (cases_lt (position_or_len p xs) (length xs)) [
       | inl within ↦ rw (lt-ltb (position_or_len p xs) (length xs) within) refl
-      | inr past ↦ rw (le-ltb (length xs) (position_or_len p xs) past) (slice_get_past xs (position_or_len p xs) past)
+      | inr past ↦ rw (le-ltb (position_or_len p xs) (length xs) past) (slice_get_past xs (position_or_len p xs) past)
     ]
 
 -- what stands before an item, and the item
@@ -108,3 +108,9 @@ AllZip-at R [] ys k x y h a b = cc
 AllZip-at R (a ∷ as') [] k x y h s t = absurd h
 AllZip-at {A} {B} R (a ∷ as') (b ∷ bs) zero x y h s t = subst (λ (z : A). R z y) (same_Some a x s) (subst (R a) (same_Some b y t) h.0)
 AllZip-at R (a ∷ as') (b ∷ bs) (suc k) x y h s t = AllZip-at R as' bs k x y h.1 s t
+
+pub AllZip-length : {A B : Type 0} → (R : A → B → Type 0) (xs : List A) (ys : List B) → AllZip R xs ys → length xs ≡ length ys
+AllZip-length R [] [] h = refl
+AllZip-length R [] (b ∷ bs) h = absurd h
+AllZip-length R (a ∷ as') [] h = absurd h
+AllZip-length R (a ∷ as') (b ∷ bs) h = ap suc (AllZip-length R as' bs h.1)

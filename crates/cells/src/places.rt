@@ -2,7 +2,7 @@
 ghost use Rattle.std.specs.Prelude.{◌≡◌, ◌^◌, map, IfOk, IfSome};
 ghost use Rattle.rt_base.specs.Ranges.{IsPointWithin, AreSidesWithin, IsWithin};
 ghost use Rattle.cells.specs.Cells.{placed_rect as placed_rect_of, placed_rects as placed_rects_of};
-ghost use Rattle.cells.specs.Ranges.{AreNear};
+ghost use Rattle.cells.specs.Ranges.{AreNear, IsPlaceable};
 
 use lef_text::Macro;
 use rt_base::{LayerNo, Memory, Orient, Point, Rect, place};
@@ -47,8 +47,7 @@ pub fn placed_rects(
     placed: Option<(Point, Orient)>,
     rects: &[(LayerNo, Rect)],
 ) -> Result<Vec<(LayerNo, Rect)>, Memory>
-    requires w { IsWithin (2 ^ 30) of.now.w }
-    requires h { IsWithin (2 ^ 30) of.now.h }
+    requires of { IsPlaceable of.now }
     requires placed { IfSome placed (λ p. IsPointWithin (2 ^ 30) p.0) }
     requires rects { AreNear rects.now }
     ensures { IfOk result (λ v. v.items ≡ placed_rects_of of.now placed rects.now) }

@@ -23,10 +23,10 @@ pub fn add_rects(
 ) -> Result<(), Memory>
     ensures { OnOk result (shapes.new.items ≡ shapes.old.items ++ fixed_shapes owner rects.now) }
 {
-    for (layer, rect) in rects {
+    for metal in rects {
         shapes.push(Shape {
-            layer: *layer,
-            rect: *rect,
+            layer: metal.0,
+            rect: metal.1,
             owner,
             fixed: true,
         })?;
@@ -46,7 +46,8 @@ fn add_pins(
     requires component { IsComponent component.now }
     ensures { OnOk result (shapes.new.items ≡ shapes.old.items ++ flat_map (λ p. fixed_shapes (cell_owner_of (owner_in owners.now) (component.now.name, p.0)) (placed_rects_of of.now component.now.placed p.1)) of.now.pins) }
 {
-    for pin in of.pins.as_slice() {
+    let pins = of.pins.as_slice();
+    for pin in pins {
         let owner = owners.cell_owner(alloc, component.name.bytes(), pin.0.bytes())?;
         let rects = placed_rects(alloc, of, component.placed, pin.1.as_slice())?;
         add_rects(shapes, owner, &rects)?;
@@ -72,7 +73,8 @@ fn add_component(
         Some(of) => {
             add_pins(alloc, shapes, owners, component, of)?;
             let obstructions = placed_rects(alloc, of, component.placed, of.obs.as_slice())?;
-            add_rects(shapes, Owner::Nobody, &obstructions)
+            add_rects(shapes, Owner::Nobody, &obstructions)?;
+            Ok(())
         }
         None => Ok(()),
     }
