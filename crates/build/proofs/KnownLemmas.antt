@@ -1,5 +1,5 @@
 -- What the look-ups say is what LEF and DEF say.
-use Rattle.std.proofs.Common.{◌≡◌, ℕ, List, [], ◌++◌, Bool, ◌||◌, not, Option, map, bytes_eq, unwrap_or, ap, ◌∙◌}
+use Rattle.std.proofs.Common.{◌≡◌, ℕ, List, [], ◌++◌, Bool, ◌||◌, not, Option, map, bytes_eq, unwrap_or, sym, ap, subst, ◌∙◌}
 use Rattle.std.specs.Prelude.{flat_map}
 use Rattle.std.specs.List.{list_any}
 use Rattle.rt_base.specs.Sides.{Sides}
@@ -8,9 +8,11 @@ use Rattle.rt_base.specs.declared.tech.Owner.{Owner}
 use Rattle.rt_base.specs.declared.tech.Owner.TheVariants.{Nobody}
 use Rattle.track_graph.specs.Metal.{Metal}
 use Rattle.lef_text.specs.declared.lef.Lef.{Lef}
+use Rattle.lef_text.specs.declared.lef.Macro.{Macro}
+use Rattle.def_text.specs.declared.def.Component.{Component}
 use Rattle.cells.specs.declared.owners.Owners.{Owners}
 use Rattle.cells.specs.Cells.{component_shapes}
-use Rattle.cells.specs.Indexes.{AreOwners, owner_in}
+use Rattle.cells.specs.Indexes.{AreOwners, AreCells, owner_in}
 use Rattle.cells.specs.Owners.{owner_of}
 use Rattle.def_text.specs.declared.def.Def.{Def}
 use Rattle.def_text.specs.declared.def.DefNet.{DefNet}
@@ -56,6 +58,11 @@ pub metals_same : (lef : Lef) (names : LayerNames) → AreLayerNames lef names �
 metals_same lef names h =
     let by : List (List ℕ) → List (List ℕ × Sides) → List Metal = λ shaped rects. metals_of (record { shaped = shaped; dropped = names.dropped }) rects in
     ap by h.shaped_names
+
+-- the look-ups of macros and components
+pub cells_same : (lef : Lef) (def : Def) (known : Lookup) (macros : List Macro) (components : List Component) → IsLookup lef def known → macros ≡ lef.macros → components ≡ def.components → AreCells macros components known.cells
+cells_same lef def known macros components h m c =
+    subst (λ (ms : List Macro). AreCells ms components known.cells) (sym m) (subst (λ (cs : List Component). AreCells lef.macros cs known.cells) (sym c) h.are_cells)
 
 -- the shapes of the input, by the look-ups
 pub fixed_same : (lef : Lef) (def : Def) (known : Lookup) → IsLookup lef def known → flat_map (component_shapes lef.macros (owner_in known.owners)) def.components ++ flat_map (pin_shapes known.layers (owner_in known.owners)) def.pins ++ shapes_on known.layers Nobody def.blockages ≡ fixed_of lef def
