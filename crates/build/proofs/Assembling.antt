@@ -13,7 +13,6 @@ use Rattle.rt_base.proofs.Ranges.{sides-weaker}
 use Rattle.track_graph.specs.declared.design.Design.{Design}
 use Rattle.track_graph.specs.declared.design.Net.{Net}
 use Rattle.track_graph.specs.declared.design.Options.{Options}
-use Rattle.track_graph.specs.declared.design.Pin.{Pin}
 use Rattle.track_graph.specs.declared.design.Tracks.{Tracks}
 use Rattle.track_graph.specs.Designs.{IsDesign, HasEntries}
 use Rattle.track_graph.specs.Levels.{TrackSystem}
@@ -22,28 +21,22 @@ use Rattle.lef_text.specs.declared.lef.Lef.{Lef}
 use Rattle.lef_text.specs.IsLef.{IsLef}
 use Rattle.def_text.specs.declared.def.Def.{Def}
 use Rattle.def_text.specs.declared.def.DefNet.{DefNet}
-use Rattle.def_text.specs.declared.def.IoPin.{IoPin}
 use Rattle.def_text.specs.declared.def.TrackRow.{TrackRow}
 use Rattle.def_text.specs.Defs.{IsDef}
 use Rattle.build.specs.declared.error.BuildError.{BuildError}
 use Rattle.build.specs.declared.error.BuildError.TheVariants.{Memory as OutOfMemory}
-use Rattle.build.specs.declared.layer_names.LayerNames.{LayerNames}
 use Rattle.build.specs.declared.lookup.Lookup.{Lookup}
-use Rattle.build.specs.Built.{IsTechOf, IsPinOf, IsNetOf, fixed_of, grid_of, skipped_of}
+use Rattle.build.specs.Built.{IsTechOf, IsNetOf, fixed_of, grid_of, skipped_of}
 use Rattle.build.specs.Faults.{name_fault, count_fault, size_fault}
 use Rattle.build.specs.Ground.{IsGround, IsBuiltNet}
-use Rattle.build.specs.Indexes.{AreLayerNames}
 use Rattle.build.specs.Indexing.{IsLookup}
 use Rattle.build.specs.Lines.{IsLevel}
-use Rattle.build.specs.LookUps.{layer_names_of, pin_rects}
 use Rattle.build.specs.Refusals.{Parts, Gives, Refuses}
 use Rattle.build.specs.Refusals.Refuses.{by_size}
 use Rattle.build.specs.TrackLines.{line_count, largest_step, routing_layers}
 use Rattle.build.proofs.DesignLemmas.{tracks_of, entries_are, design_is}
 use Rattle.build.proofs.FirstFaults.{few_levels, counted}
-use Rattle.build.proofs.KnownLemmas.{metals_same}
-use Rattle.build.proofs.Lists.{AllZip-weaker}
-use Rattle.build.proofs.MetalLemmas.{rects_few}
+use Rattle.cells.proofs.Lists.{AllZip-weaker}
 use Rattle.build.proofs.TechLemmas.{tech_is}
 use Rattle.build.proofs.TrackLemmas.{tracks_are}
 use Rattle.build.proofs.Uniqueness.{no_refusal, one_refusal, is_memory}
@@ -65,55 +58,41 @@ pub record AreBuilt (def : Def) (tech : Tech) (tracks : Tracks) : Type 0 where
   pub levels : AllZip (IsLevel def.tracks) (routing_layers tech.layers) tracks.lines
   pub steps : tracks.largest_step ≡ map (largest_step def.tracks) (routing_layers tech.layers)
 
-pub ground_is : (lef : Lef) (def : Def) (options : Options) (known : Lookup) (tech : Tech) (tracks : Tracks) → Stands lef def options known tech → AreBuilt def tech tracks → IsGround tech tracks def.die known.layers def.pins
+pub ground_is : (lef : Lef) (def : Def) (options : Options) (known : Lookup) (tech : Tech) (tracks : Tracks) → Stands lef def options known tech → AreBuilt def tech tracks → IsGround lef def known tech tracks
 ground_is lef def options known tech tracks s b =
     let few = few_levels lef def s.names in
     let count = counted lef def tech s.counts in
     let same = s.tech_of.layers in
     record {
+      is_lef = s.is_lef;
+      is_def = s.is_def;
+      is_lookup = s.known_is;
       is_tech = tech_is lef tech s.is_lef s.tech_of few;
+      same_layers = same;
       are_tracks = tracks_are tech def.tracks tracks s.is_def.tracks b.levels b.steps (subst (λ (ls : List Layer). All (λ (l : Layer). line_count l def.tracks ≤ 65536) (routing_layers ls)) (sym same) count.lines);
-      die_within = sides-weaker (2 ^ 30) (2 ^ 32) def.die (omega arith) s.is_def.die;
-      shaped = ap length s.known_is.are_layer_names.shaped_names ∙ length-map lef.layers (λ (l : Layer). l.name) ∙ ap length (sym same);
-      are_pins = s.is_def.pins;
-      few_rects = λ k d lt. subst (λ (f : List (List ℕ × Sides) → _). length (f (get_or def.pins k d).rects) < 2 ^ 32) (sym (metals_same lef known.layers s.known_is.are_layer_names)) (omega (arith, rects_few lef def 4194304 count.shapes k d lt));
+      few_shapes = count.shapes;
       few_levels = subst (λ (ls : List Layer). length (routing_layers ls) ≤ 16) (sym same) few;
     }
 
-pin_of : (lef : Lef) (layers : LayerNames) (io : List IoPin) (g : TrackSystem) (named : ℕ × (List ℕ × List ℕ)) (pin : Pin) → AreLayerNames lef layers → IsPinOf layers io g named pin → IsPinOf (layer_names_of lef) io g named pin
-pin_of lef layers io g named pin h p = record {
-  comp = p.comp;
-  name = p.name;
-  rects = p.rects ∙ ap (λ (f : List (List ℕ × Sides) → _). f (pin_rects io named.1.1)) (metals_same lef layers h);
-  entries = p.entries;
-}
-
-pub nets_of : (lef : Lef) (layers : LayerNames) (io : List IoPin) (g : TrackSystem) (said : List DefNet) (nets : List Net) → AreLayerNames lef layers → AllZip (IsBuiltNet layers io g) said nets → AllZip (IsNetOf (layer_names_of lef) io g) said nets
-nets_of lef layers io g said nets h =
-    AllZip-weaker (IsBuiltNet layers io g) (IsNetOf (layer_names_of lef) io g) (λ s n b. record {
-      name = b.is_net_of.name;
-      pins = AllZip-weaker (IsPinOf layers io g) (IsPinOf (layer_names_of lef) io g) (λ named pin p. pin_of lef layers io g named pin h p) (enumerate_from 0 s.pins) n.pins b.is_net_of.pins;
-      guide = b.is_net_of.guide;
-      kind = b.is_net_of.kind;
-      close = b.is_net_of.close;
-    }) said nets
+pub nets_of : (lef : Lef) (def : Def) (g : TrackSystem) (said : List DefNet) (nets : List Net) → AllZip (IsBuiltNet lef def g) said nets → AllZip (IsNetOf lef def g) said nets
+nets_of lef def g said nets h = AllZip-weaker (IsBuiltNet lef def g) (IsNetOf lef def g) (λ s n b. b.is_net_of) said nets h
 
 -- the parts of the design
-abbrev pub parts_are : (lef : Lef) (def : Def) (options : Options) (known : Lookup) (tech : Tech) (tracks : Tracks) (nets : List Net) → Stands lef def options known tech → AreBuilt def tech tracks → AllZip (IsBuiltNet known.layers def.pins (system_of tech tracks def.die)) def.nets nets → Parts lef def
+abbrev pub parts_are : (lef : Lef) (def : Def) (options : Options) (known : Lookup) (tech : Tech) (tracks : Tracks) (nets : List Net) → Stands lef def options known tech → AreBuilt def tech tracks → AllZip (IsBuiltNet lef def (system_of tech tracks def.die)) def.nets nets → Parts lef def
 parts_are lef def options known tech tracks nets s b n = record {
   tech = tech;
   tech_of = s.tech_of;
   tracks = tracks;
   tracks_of = tracks_of lef def tech tracks s.tech_of.layers b.levels b.steps;
   nets = nets;
-  nets_of = nets_of lef known.layers def.pins (system_of tech tracks def.die) def.nets nets s.known_is.are_layer_names n;
+  nets_of = nets_of lef def (system_of tech tracks def.die) def.nets nets n;
 }
 
 -- the design that is put together
 pub record IsAssembled (lef : Lef) (def : Def) (options : Options) (known : Lookup) (d : Design) : Type 0 where
   pub stands : Stands lef def options known d.tech
   pub built : AreBuilt def d.tech d.tracks
-  pub nets : AllZip (IsBuiltNet known.layers def.pins (system_of d.tech d.tracks def.die)) def.nets d.nets
+  pub nets : AllZip (IsBuiltNet lef def (system_of d.tech d.tracks def.die)) def.nets d.nets
   pub grid : d.grid ≡ grid_of def options
   pub fixed : d.fixed ≡ fixed_of lef def
   pub chosen : d.options ≡ options
@@ -131,14 +110,14 @@ assembled_gives lef def options known d a =
 pub assembled_fits : (lef : Lef) (def : Def) (options : Options) (known : Lookup) (d : Design) → IsAssembled lef def options known d → IsDesign d
 assembled_fits lef def options known d a =
     let g = ground_is lef def options known d.tech d.tracks a.stands a.built in
-    design_is lef def options known.layers def.pins d a.stands.is_def a.stands.tech_of g.is_tech g.are_tracks a.grid a.stands.via a.stands.least a.stands.most a.chosen
-    (subst (λ (die : Sides). AllZip (IsBuiltNet known.layers def.pins (system_of d.tech d.tracks die)) def.nets d.nets) (ap (λ g. g.die) (sym a.grid)) a.nets) a.fixed
+    design_is lef def options d a.stands.is_lef a.stands.is_def a.stands.tech_of g.is_tech g.are_tracks a.grid a.stands.via a.stands.least a.stands.most a.chosen
+    (subst (λ (die : Sides). AllZip (IsBuiltNet lef def (system_of d.tech d.tracks die)) def.nets d.nets) (ap (λ g. g.die) (sym a.grid)) a.nets) a.fixed
 
 pub assembled_entries : (lef : Lef) (def : Def) (options : Options) (known : Lookup) (d : Design) → IsAssembled lef def options known d → HasEntries d
 assembled_entries lef def options known d a =
-    entries_are known.layers def.pins def.nets d
-    (subst (λ (die : Sides). AllZip (IsNetOf known.layers def.pins (system_of d.tech d.tracks die)) def.nets d.nets) (ap (λ g. g.die) (sym a.grid))
-    (AllZip-weaker (IsBuiltNet known.layers def.pins (system_of d.tech d.tracks def.die)) (IsNetOf known.layers def.pins (system_of d.tech d.tracks def.die)) (λ s n h. h.is_net_of) def.nets d.nets a.nets))
+    entries_are lef def def.nets d
+    (subst (λ (die : Sides). AllZip (IsNetOf lef def (system_of d.tech d.tracks die)) def.nets d.nets) (ap (λ g. g.die) (sym a.grid))
+    (AllZip-weaker (IsBuiltNet lef def (system_of d.tech d.tracks def.die)) (IsNetOf lef def (system_of d.tech d.tracks def.die)) (λ s n h. h.is_net_of) def.nets d.nets a.nets))
 
 -- exits
 pub refused : (lef : Lef) (def : Def) (options : Options) (r : Result Design BuildError) (x : BuildError) → IsErrAnd r (λ e. e ≡ x) → (x ≢ OutOfMemory → Refuses lef def options x) → IfErr r (λ e. e ≢ OutOfMemory → Refuses lef def options e)
@@ -180,10 +159,9 @@ built_through def tech tracks rows layers r l lines steps = record {
   steps = steps ∙ ap (λ (ls : List Layer). map (largest_step rows) (routing_layers ls)) l ∙ ap (λ (rs : List TrackRow). map (largest_step rs) (routing_layers tech.layers)) r;
 }
 
-pub nets_through : (layers : LayerNames) (g : TrackSystem) (def : Def) (pins : List IoPin) (said : List DefNet) (nets : List Net) → pins ≡ def.pins → said ≡ def.nets → AllZip (IsBuiltNet layers pins g) said nets → AllZip (IsBuiltNet layers def.pins g) def.nets nets
-nets_through layers g def pins said nets p s h =
-    subst (λ (ps : List IoPin). AllZip (IsBuiltNet layers ps g) def.nets nets) p (subst (λ (ss : List DefNet). AllZip (IsBuiltNet layers pins g) ss nets) s h)
+pub nets_through : (lef : Lef) (g : TrackSystem) (def : Def) (said : List DefNet) (nets : List Net) → said ≡ def.nets → AllZip (IsBuiltNet lef def g) said nets → AllZip (IsBuiltNet lef def g) def.nets nets
+nets_through lef g def said nets s h = subst (λ (ss : List DefNet). AllZip (IsBuiltNet lef def g) ss nets) s h
 
 -- the refusal of a size
-pub too_large : (lef : Lef) (def : Def) (options : Options) (known : Lookup) (tech : Tech) (tracks : Tracks) (nets : List Net) (e : BuildError) → Stands lef def options known tech → AreBuilt def tech tracks → AllZip (IsBuiltNet known.layers def.pins (system_of tech tracks def.die)) def.nets nets → size_fault (grid_of def options) (fixed_of lef def) nets ≡ Some e → Refuses lef def options e
+pub too_large : (lef : Lef) (def : Def) (options : Options) (known : Lookup) (tech : Tech) (tracks : Tracks) (nets : List Net) (e : BuildError) → Stands lef def options known tech → AreBuilt def tech tracks → AllZip (IsBuiltNet lef def (system_of tech tracks def.die)) def.nets nets → size_fault (grid_of def options) (fixed_of lef def) nets ≡ Some e → Refuses lef def options e
 too_large lef def options known tech tracks nets e s b n h = by_size s.names (parts_are lef def options known tech tracks nets s b n) s.counts h

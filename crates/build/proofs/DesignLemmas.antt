@@ -11,16 +11,15 @@ use Rattle.track_graph.specs.Designs.{IsDesign, HasEntries, IsNet, IsFixed, IsTe
 use Rattle.track_graph.specs.Entries.{IsEntry}
 use Rattle.track_graph.specs.Levels.{track_system_of}
 use Rattle.lef_text.specs.declared.lef.Lef.{Lef}
+use Rattle.lef_text.specs.IsLef.{IsLef}
 use Rattle.def_text.specs.declared.def.Def.{Def}
 use Rattle.def_text.specs.declared.def.DefNet.{DefNet}
-use Rattle.def_text.specs.declared.def.IoPin.{IoPin}
 use Rattle.def_text.specs.Defs.{IsDef, IsDefNet}
-use Rattle.build.specs.declared.layer_names.LayerNames.{LayerNames}
 use Rattle.build.specs.Built.{IsTechOf, IsPinOf, IsNetOf, fixed_of, grid_of}
 use Rattle.build.specs.Ground.{IsBuiltNet}
 use Rattle.build.specs.Lines.{IsLevel}
 use Rattle.build.specs.TrackLines.{AreTracksOf, AreLinesOf, largest_step, routing_layers}
-use Rattle.build.proofs.Lists.{AllZip-weaker}
+use Rattle.cells.proofs.Lists.{AllZip-weaker}
 use Rattle.build.proofs.TechLemmas.{AllZip-length, AllZip-all}
 use Rattle.build.proofs.MetalLemmas.{fixed_are}
 
@@ -45,21 +44,21 @@ tracks_of lef def tech tracks same lines steps = record {
 }
 
 -- the entries of each pin
-pub entries_are : (layers : LayerNames) (io : List IoPin) (said : List DefNet) (d : Design) → AllZip (IsNetOf layers io (track_system_of d)) said d.nets → HasEntries d
-entries_are layers io said d nets n k net pin e at_net at_pin =
-    let m = AllZip-second (IsNetOf layers io (track_system_of d)) said d.nets n net nets at_net in
-    let p = AllZip-second (IsPinOf layers io (track_system_of d)) (enumerate_from 0 m.0.pins) net.pins k pin m.2.pins at_pin in
+pub entries_are : (lef : Lef) (def : Def) (said : List DefNet) (d : Design) → AllZip (IsNetOf lef def (track_system_of d)) said d.nets → HasEntries d
+entries_are lef def said d nets n k net pin e at_net at_pin =
+    let m = AllZip-second (IsNetOf lef def (track_system_of d)) said d.nets n net nets at_net in
+    let p = AllZip-second (IsPinOf lef def (track_system_of d)) (enumerate_from 0 m.0.pins) net.pins k pin m.2.pins at_pin in
     let number : p.0.0 ≡ k = slice_get-enumerate_from 0 m.0.pins k p.0 p.1 ∙ omega arith in
     subst (λ (j : ℕ). Contains pin.entries e ↔ IsEntry (track_system_of d) j pin.rects e) number (p.2.entries.exactly e)
 
 -- the design
-pub design_is : (lef : Lef) (def : Def) (options : Options) (layers : LayerNames) (io : List IoPin) (d : Design) → IsDef def → IsTechOf lef d.tech → IsTech d.tech → AreTracks d.tech d.tracks → d.grid ≡ grid_of def options → options.via ≤ 2 ^ 20 → pos 1 ≤ℤ options.tile → options.tile ≤ℤ pos (2 ^ 35) → d.options ≡ options → AllZip (IsBuiltNet layers io (track_system_of d)) def.nets d.nets → d.fixed ≡ fixed_of lef def → IsDesign d
-design_is lef def options layers io d ok t tech tracks grid via least most same nets fixed = record {
+pub design_is : (lef : Lef) (def : Def) (options : Options) (d : Design) → IsLef lef → IsDef def → IsTechOf lef d.tech → IsTech d.tech → AreTracks d.tech d.tracks → d.grid ≡ grid_of def options → options.via ≤ 2 ^ 20 → pos 1 ≤ℤ options.tile → options.tile ≤ℤ pos (2 ^ 35) → d.options ≡ options → AllZip (IsBuiltNet lef def (track_system_of d)) def.nets d.nets → d.fixed ≡ fixed_of lef def → IsDesign d
+design_is lef def options d good ok t tech tracks grid via least most same nets fixed = record {
   tech = tech;
   tracks = tracks;
   grid = subst (λ g. IsGrid g) (sym grid) (record { die = sides-weaker (2 ^ 30) (2 ^ 32) def.die (omega arith) ok.die; tile = (least, most) });
   options = subst (λ o. AreOptions o) (sym same) (record { via = via });
-  net_count = omega (arith, ok.net_count, AllZip-length (IsBuiltNet layers io (track_system_of d)) def.nets d.nets nets);
-  nets = AllZip-all (IsBuiltNet layers io (track_system_of d)) IsDefNet (IsNet (track_system_of d)) (λ s n h o. h.is_net) def.nets d.nets nets ok.nets;
-  fixed = subst (λ ss. All (IsFixed d.tech) ss) (sym fixed) (fixed_are lef def d.tech ok t.layers);
+  net_count = omega (arith, ok.net_count, AllZip-length (IsBuiltNet lef def (track_system_of d)) def.nets d.nets nets);
+  nets = AllZip-all (IsBuiltNet lef def (track_system_of d)) IsDefNet (IsNet (track_system_of d)) (λ s n h o. h.is_net) def.nets d.nets nets ok.nets;
+  fixed = subst (λ ss. All (IsFixed d.tech) ss) (sym fixed) (fixed_are lef def d.tech good ok t.layers);
 }

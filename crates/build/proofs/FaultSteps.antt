@@ -6,7 +6,7 @@ use Rattle.std.proofs.lemmas.List.Elements.{filter-append, filter_more}
 use Rattle.build.specs.declared.error.BuildError.{BuildError}
 use Rattle.build.specs.Faults.{first_by}
 use Rattle.build.proofs.FirstFaults.{first_by-append, fault_here, fault_later}
-use Rattle.build.proofs.Lists.{enumerate_from-more}
+use Rattle.cells.proofs.Lists.{enumerate_from-more}
 use Rattle.build.proofs.Steps.{next, kept_skip}
 
 -- what stands before an item, the item, and the rest

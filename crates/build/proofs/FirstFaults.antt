@@ -16,8 +16,8 @@ use Rattle.build.specs.declared.error.BuildError.TheVariants.{Memory as OutOfMem
 use Rattle.build.specs.declared.error.Limited.{Limited}
 use Rattle.build.specs.declared.error.Limited.TheVariants.{RoutingLayers, UsableVias, Tracks, Nets, FixedShapes}
 use Rattle.build.specs.Built.{fixed_of}
-use Rattle.build.specs.Faults.{first_by, limit_fault, scale_fault, row_fault, rects_fault, pin_fault, net_fault, level_fault, usable_count, name_fault, count_fault}
-use Rattle.build.specs.LookUps.{layer_names_of, pin_names, owner_of}
+use Rattle.build.specs.Faults.{first_by, limit_fault, scale_fault, row_fault, rects_fault, component_fault, pin_fault, net_fault, level_fault, usable_count, name_fault, count_fault}
+use Rattle.build.specs.LookUps.{layer_names_of}
 use Rattle.build.specs.TrackLines.{line_count, routing_layers}
 use Rattle.build.specs.Indexes.{Tells}
 
@@ -87,9 +87,10 @@ pub few_levels : (lef : Lef) (def : Def) → name_fault lef def ≡ None → len
 few_levels lef def h =
     let p0 = option_or_none (scale_fault lef def) _ h in
     let p1 = option_or_none (first_by (row_fault (layer_names_of lef)) def.tracks) _ p0.1 in
-    let p2 = option_or_none (first_by (pin_fault (layer_names_of lef)) def.pins) _ p1.1 in
+    let c = option_or_none (first_by (component_fault lef.macros) def.components) _ p1.1 in
+    let p2 = option_or_none (first_by (pin_fault (layer_names_of lef)) def.pins) _ c.1 in
     let p3 = option_or_none (rects_fault (layer_names_of lef) def.blockages) _ p2.1 in
-    let p4 = option_or_none (first_by (net_fault (pin_names def.pins) (owner_of def.nets)) (enumerate_from 0 def.nets)) _ p3.1 in
+    let p4 = option_or_none (first_by (net_fault lef def) (enumerate_from 0 def.nets)) _ p3.1 in
     let p5 = option_or_none (first_by (level_fault def.tracks) (routing_layers lef.layers)) _ p4.1 in
     let p6 = option_or_none (limit_fault RoutingLayers (length (routing_layers lef.layers)) 16) None p5.1 in
     limit_none RoutingLayers (length (routing_layers lef.layers)) 16 p6.0

@@ -1,13 +1,12 @@
 pub mod Ascending
 pub mod Assembling
+pub mod CellLemmas
 pub mod DesignLemmas
 pub mod FaultSteps
 pub mod FirstFaults
 pub mod KnownLemmas
-pub mod Lists
 pub mod MetalLemmas
 pub mod NameSteps
-pub mod OwnerLemmas
 pub mod Steps
 pub mod TechLemmas
 pub mod TileLemmas

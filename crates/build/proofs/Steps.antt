@@ -11,14 +11,9 @@ use Rattle.build.specs.LookUps.{pin_names, pin_rects}
 use Rattle.rt_words.proofs.Words.{same}
 use Rattle.std.proofs.lemmas.List.Quantifiers.{position-Some}
 use Rattle.std.proofs.lemmas.List.Recursion.{found_at}
-use Rattle.build.proofs.Lists.{is_some-position, AllZip-more, enumerate_from-more, All-found}
+use Rattle.cells.proofs.Lists.{is_some-position, AllZip-more, enumerate_from-more, All-found}
+pub use Rattle.cells.proofs.Lists.{next, taken_more, or-false, any_more}
 use Rattle.build.proofs.TechLemmas.{AllZip-length}
-
-pub next : {X : Type 0} → (xs : List X) (i : ℕ) (x : X) → i < length xs → x ≡ get_or xs i x → take (i + 1) xs ≡ take i xs ++ x ∷ []
-next {X} xs i x within at = take_more xs i x within ∙ ap (λ (y : X). take i xs ++ y ∷ []) (sym at)
-
-pub taken_more : {A B : Type 0} → (R : A → B → Type 0) (xs : List A) (i : ℕ) (x : A) (ys : List B) (y : B) → i < length xs → x ≡ get_or xs i x → AllZip R (take i xs) ys → R x y → AllZip R (take (i + 1) xs) (ys ++ y ∷ [])
-taken_more {A} {B} R xs i x ys y within at h r = subst (λ (zs : List A). AllZip R zs (ys ++ y ∷ [])) (sym (next xs i x within at)) (AllZip-more R (take i xs) ys x y h r)
 
 pub numbered_more : {A B : Type 0} → (R : ℕ × A → B → Type 0) (xs : List A) (i : ℕ) (x : A) (ys : List B) (y : B) → i < length xs → x ≡ get_or xs i x → AllZip R (enumerate_from 0 (take i xs)) ys → R (i, x) y → AllZip R (enumerate_from 0 (take (i + 1) xs)) (ys ++ y ∷ [])
 numbered_more {A} {B} R xs i x ys y within at h r =
@@ -68,17 +63,6 @@ rects_named P pins name none all = by_pin (find (λ (p : IoPin). bytes_eq name p
     by_pin : (o : Option IoPin) → ((p : IoPin) → o ≡ Some p → P p.rects) → P (unwrap_or (option_map (λ (p : IoPin). p.rects) o) [])
     by_pin None h = none
     by_pin (Some p) h = h p refl
-
-pub or-false : (b : Bool) → (b || false) ≡ b
-or-false true = refl
-or-false false = refl
-
--- whether one of these, or one more, passes
-pub any_more : {X : Type 0} → (p : X → Bool) (xs : List X) (i : ℕ) (x : X) → i < length xs → x ≡ get_or xs i x → list_any p (take (i + 1) xs) ≡ (list_any p (take i xs) || p x)
-any_more p xs i x within at =
-    ap (list_any p) (next xs i x within at)
-    ∙ list_any-append p (take i xs) (x ∷ [])
-    ∙ ap (λ (b : Bool). list_any p (take i xs) || b) (or-false (p x))
 
 -- a filter keeps one more than before an item that passes
 pub kept_count : {X : Type 0} → (p : X → Bool) (xs : List X) (i : ℕ) (x : X) → i < length xs → x ≡ get_or xs i x → p x ≡ true → length (filter p (take i xs)) + 1 ≤ length (filter p xs)

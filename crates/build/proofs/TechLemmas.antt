@@ -15,6 +15,7 @@ use Rattle.track_graph.specs.Levels.{routing_from, levels, number_of, layer_no, 
 use Rattle.track_graph.specs.Metal.{Metal}
 use Rattle.lef_text.specs.declared.lef.Lef.{Lef}
 use Rattle.lef_text.specs.IsLef.{IsLef, IsLayer, IfRouting, IsVia, Alternate, directions}
+pub use Rattle.cells.proofs.Lists.{AllZip-length}
 use Rattle.build.specs.Built.{IsViaOfLef, IsTechOf}
 use Rattle.build.specs.Usable.{JoinsSome, IsViaBy}
 use Rattle.build.specs.TrackLines.{routing_layers}
@@ -129,12 +130,6 @@ widths_from n (l ∷ ls) all = by_test l.routing refl (widths_from (n + 1) ls (A
     by_test : (b : Bool) → l.routing ≡ b → All (λ (x : ℕ × Layer). IsWidth x.1.width) (routing_from (n + 1) ls) → All (λ (x : ℕ × Layer). IsWidth x.1.width) (cond b ((n, l) ∷ routing_from (n + 1) ls) (routing_from (n + 1) ls))
     by_test true e h = All-cons (λ (x : ℕ × Layer). IsWidth x.1.width) (n, l) (routing_from (n + 1) ls) (subst (λ (b : Bool). IfRouting b (IsWidth l.width)) e (All-head IsLayer l ls all).width) h
     by_test false e h = h
-
-pub AllZip-length : {A B : Type 0} → (R : A → B → Type 0) (xs : List A) (ys : List B) → AllZip R xs ys → length xs ≡ length ys
-AllZip-length R [] [] h = refl
-AllZip-length R [] (b ∷ bs) h = absurd h
-AllZip-length R (a ∷ as') [] h = absurd h
-AllZip-length R (a ∷ as') (b ∷ bs) h = ap suc (AllZip-length R as' bs h.1)
 
 -- each of the second list has what its partner in the first gives it
 pub AllZip-all : {A B : Type 0} → (R : A → B → Type 0) (P : A → Type 0) (Q : B → Type 0) → ((x : A) (y : B) → R x y → P x → Q y) → (xs : List A) (ys : List B) → AllZip R xs ys → All P xs → All Q ys

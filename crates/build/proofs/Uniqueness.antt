@@ -23,15 +23,12 @@ use Rattle.pin_access.specs.EntryOrder.{IsPointBefore, IsVertexBefore, IsEntryBe
 use Rattle.lef_text.specs.declared.lef.Lef.{Lef}
 use Rattle.def_text.specs.declared.def.Def.{Def}
 use Rattle.def_text.specs.declared.def.DefNet.{DefNet}
-use Rattle.def_text.specs.declared.def.IoPin.{IoPin}
 use Rattle.def_text.specs.declared.def.TrackRow.{TrackRow}
-use Rattle.build.specs.declared.layer_names.LayerNames.{LayerNames}
 use Rattle.build.specs.Built.{IsViaOfLef, IsTechOf, AreEntriesOf, IsPinOf, IsNetOf, fixed_of, grid_of}
 use Rattle.build.specs.TrackLines.{AreTracksOf, AreLinesOf, routing_layers}
 use Rattle.build.specs.declared.error.BuildError.{BuildError}
-use Rattle.build.specs.declared.error.BuildError.TheVariants.{Scale, NoComponent, NoPin, NoLayer, PinTwice, NoTracks, Limit, Memory}
+use Rattle.build.specs.declared.error.BuildError.TheVariants.{Scale, NoMacro, NoComponent, NoPin, NoLayer, PinTwice, NoTracks, Limit, Memory}
 use Rattle.build.specs.Faults.{entry_count, count_fault, size_by, size_fault}
-use Rattle.build.specs.LookUps.{layer_names_of}
 use Rattle.build.specs.Refusals.{Parts, Gives, Refuses}
 use Rattle.build.specs.Refusals.Refuses.{by_name, by_count, by_size}
 
@@ -158,34 +155,34 @@ tracks_unique lef def a b h k =
     (λ i. record { lines = lines i; largest_step = steps i })
 
 -- the pins of a net have one list of entries each
-pins_count : (layers : LayerNames) (io : List IoPin) (g : TrackSystem) (said : List (ℕ × (List ℕ × List ℕ))) (ps qs : List Pin) → AllZip (IsPinOf layers io g) said ps → AllZip (IsPinOf layers io g) said qs → sum_by (λ (p : Pin). length p.entries) ps ≡ sum_by (λ (p : Pin). length p.entries) qs
-pins_count layers io g [] [] [] h k = refl
-pins_count layers io g [] [] (q ∷ qs) h k = absurd k
-pins_count layers io g [] (p ∷ ps) qs h k = absurd h
-pins_count layers io g (s ∷ ss) [] qs h k = absurd h
-pins_count layers io g (s ∷ ss) (p ∷ ps) [] h k = absurd k
-pins_count layers io g (s ∷ ss) (p ∷ ps) (q ∷ qs) h k =
+pins_count : (lef : Lef) (def : Def) (g : TrackSystem) (said : List (ℕ × (List ℕ × List ℕ))) (ps qs : List Pin) → AllZip (IsPinOf lef def g) said ps → AllZip (IsPinOf lef def g) said qs → sum_by (λ (p : Pin). length p.entries) ps ≡ sum_by (λ (p : Pin). length p.entries) qs
+pins_count lef def g [] [] [] h k = refl
+pins_count lef def g [] [] (q ∷ qs) h k = absurd k
+pins_count lef def g [] (p ∷ ps) qs h k = absurd h
+pins_count lef def g (s ∷ ss) [] qs h k = absurd h
+pins_count lef def g (s ∷ ss) (p ∷ ps) [] h k = absurd k
+pins_count lef def g (s ∷ ss) (p ∷ ps) (q ∷ qs) h k =
     let rects : p.rects ≡ q.rects = h.0.rects ∙ sym k.0.rects in
     let there : AreEntriesOf g s.0 p.rects q.entries = subst (λ rs. AreEntriesOf g s.0 rs q.entries) (sym rects) k.0.entries in
     let one : p.entries ≡ q.entries = ascending_unique IsEntryBefore entry_apart p.entries q.entries h.0.entries.ordered there.ordered (λ e m. (there.exactly e).1 ((h.0.entries.exactly e).0 m)) (λ e m. (h.0.entries.exactly e).1 ((there.exactly e).0 m)) in
     sum_by-cons (λ (p : Pin). length p.entries) p ps
     ∙ ap (λ (n : ℕ). n + sum_by (λ (p : Pin). length p.entries) ps) (ap length one)
-    ∙ ap (λ (n : ℕ). length q.entries + n) (pins_count layers io g ss ps qs h.1 k.1)
+    ∙ ap (λ (n : ℕ). length q.entries + n) (pins_count lef def g ss ps qs h.1 k.1)
     ∙ sym (sum_by-cons (λ (p : Pin). length p.entries) q qs)
 
 abbrev pin_sum : Net → ℕ
 pin_sum net = sum_by (λ (pin : Pin). length pin.entries) net.pins
 
-pub entry_count_unique : (layers : LayerNames) (io : List IoPin) (g : TrackSystem) (said : List DefNet) (ms ns : List Net) → AllZip (IsNetOf layers io g) said ms → AllZip (IsNetOf layers io g) said ns → entry_count ms ≡ entry_count ns
-entry_count_unique layers io g [] [] [] h k = refl
-entry_count_unique layers io g [] [] (n ∷ ns) h k = absurd k
-entry_count_unique layers io g [] (m ∷ ms) ns h k = absurd h
-entry_count_unique layers io g (s ∷ ss) [] ns h k = absurd h
-entry_count_unique layers io g (s ∷ ss) (m ∷ ms) [] h k = absurd k
-entry_count_unique layers io g (s ∷ ss) (m ∷ ms) (n ∷ ns) h k =
+pub entry_count_unique : (lef : Lef) (def : Def) (g : TrackSystem) (said : List DefNet) (ms ns : List Net) → AllZip (IsNetOf lef def g) said ms → AllZip (IsNetOf lef def g) said ns → entry_count ms ≡ entry_count ns
+entry_count_unique lef def g [] [] [] h k = refl
+entry_count_unique lef def g [] [] (n ∷ ns) h k = absurd k
+entry_count_unique lef def g [] (m ∷ ms) ns h k = absurd h
+entry_count_unique lef def g (s ∷ ss) [] ns h k = absurd h
+entry_count_unique lef def g (s ∷ ss) (m ∷ ms) [] h k = absurd k
+entry_count_unique lef def g (s ∷ ss) (m ∷ ms) (n ∷ ns) h k =
     sum_by-cons pin_sum m ms
-    ∙ ap (λ (c : ℕ). c + entry_count ms) (pins_count layers io g (enumerate_from 0 s.pins) m.pins n.pins h.0.pins k.0.pins)
-    ∙ ap (λ (c : ℕ). pin_sum n + c) (entry_count_unique layers io g ss ms ns h.1 k.1)
+    ∙ ap (λ (c : ℕ). c + entry_count ms) (pins_count lef def g (enumerate_from 0 s.pins) m.pins n.pins h.0.pins k.0.pins)
+    ∙ ap (λ (c : ℕ). pin_sum n + c) (entry_count_unique lef def g ss ms ns h.1 k.1)
     ∙ sym (sum_by-cons pin_sum n ns)
 
 -- the sizes of the design don't depend on how it is built
@@ -193,11 +190,11 @@ sizes_same : (lef : Lef) (def : Def) (options : Options) (p q : Parts lef def) �
 sizes_same lef def options p q =
     let te : q.tech ≡ p.tech = tech_unique lef q.tech p.tech q.tech_of p.tech_of in
     let tr : q.tracks ≡ p.tracks = tracks_unique lef def q.tracks p.tracks q.tracks_of p.tracks_of in
-    let by_tech : AllZip (IsNetOf (layer_names_of lef) def.pins (system_of p.tech q.tracks def.die)) def.nets q.nets =
-    subst (λ (t : Tech). AllZip (IsNetOf (layer_names_of lef) def.pins (system_of t q.tracks def.die)) def.nets q.nets) te q.nets_of in
-    let by_tracks : AllZip (IsNetOf (layer_names_of lef) def.pins (system_of p.tech p.tracks def.die)) def.nets q.nets =
-    subst (λ (t : Tracks). AllZip (IsNetOf (layer_names_of lef) def.pins (system_of p.tech t def.die)) def.nets q.nets) tr by_tech in
-    ap (size_by (grid_of def options) (fixed_of lef def)) (entry_count_unique (layer_names_of lef) def.pins (system_of p.tech p.tracks def.die) def.nets p.nets q.nets p.nets_of by_tracks)
+    let by_tech : AllZip (IsNetOf lef def (system_of p.tech q.tracks def.die)) def.nets q.nets =
+    subst (λ (t : Tech). AllZip (IsNetOf lef def (system_of t q.tracks def.die)) def.nets q.nets) te q.nets_of in
+    let by_tracks : AllZip (IsNetOf lef def (system_of p.tech p.tracks def.die)) def.nets q.nets =
+    subst (λ (t : Tracks). AllZip (IsNetOf lef def (system_of p.tech t def.die)) def.nets q.nets) tr by_tech in
+    ap (size_by (grid_of def options) (fixed_of lef def)) (entry_count_unique lef def (system_of p.tech p.tracks def.die) def.nets p.nets q.nets p.nets_of by_tracks)
 
 counts_same : (lef : Lef) (def : Def) (t u : Tech) → IsTechOf lef t → IsTechOf lef u → count_fault lef def t ≡ count_fault lef def u
 counts_same lef def t u h k = ap (count_fault lef def) (tech_unique lef t u h k)
@@ -228,6 +225,7 @@ no_refusal lef def options d e g (by_size h p c s) =
 -- what isn't another fault is want of memory
 pub is_memory : (e : BuildError) → (e ≢ Memory → ⊥) → e ≡ Memory
 is_memory (Scale a b) h = absurd (h (λ same. cc))
+is_memory (NoMacro n) h = absurd (h (λ same. cc))
 is_memory (NoComponent n) h = absurd (h (λ same. cc))
 is_memory (NoPin n) h = absurd (h (λ same. cc))
 is_memory (NoLayer n) h = absurd (h (λ same. cc))

@@ -1,5 +1,5 @@
--- The design that LEF and DEF describe (LEF 5.8: LAYER and VIA DEFAULT; DEF 5.8: DIEAREA, TRACKS, PINS, BLOCKAGES and NETS). The kinds of nets, tiles and entries are this project's own.
-use Rattle.std.specs.Prelude.{◌≡◌, ℕ, List, [], ◌∷◌, ◌++◌, IsTrue, true, if◌then◌else◌, nat_lt, ◌↔◌, length, map, flat_map, codes, Contains, AllPairs}
+-- The design that LEF and DEF describe (LEF 5.8: LAYER, VIA DEFAULT and MACRO; DEF 5.8: DIEAREA, TRACKS, COMPONENTS, PINS, BLOCKAGES and NETS). The kinds of nets, tiles and entries are this project's own.
+use Rattle.std.specs.Prelude.{◌≡◌, ℕ, List, [], ◌∷◌, ◌++◌, IsTrue, if◌then◌else◌, nat_lt, ◌↔◌, length, map, flat_map, codes, Contains, AllPairs}
 use Rattle.std.specs.List.{AllZip, enumerate_from}
 use Rattle.rt_base.specs.Sides.{Sides}
 use Rattle.rt_base.specs.declared.grid.Grid.{Grid}
@@ -13,7 +13,7 @@ use Rattle.rt_base.specs.declared.walk.Entry.{Entry}
 use Rattle.track_graph.specs.declared.design.Design.{Design}
 use Rattle.track_graph.specs.declared.design.Net.{Net}
 use Rattle.track_graph.specs.declared.design.NetKind.{NetKind}
-use Rattle.track_graph.specs.declared.design.NetKind.TheVariants.{Routable, Single}
+use Rattle.track_graph.specs.declared.design.NetKind.TheVariants.{Routable, Prewired, Single}
 use Rattle.track_graph.specs.declared.design.Options.{Options}
 use Rattle.track_graph.specs.declared.design.Pin.{Pin}
 use Rattle.track_graph.specs.Designs.{IsUsable}
@@ -24,9 +24,11 @@ use Rattle.lef_text.specs.declared.lef.Lef.{Lef}
 use Rattle.def_text.specs.declared.def.Def.{Def}
 use Rattle.def_text.specs.declared.def.DefNet.{DefNet}
 use Rattle.def_text.specs.declared.def.IoPin.{IoPin}
+use Rattle.cells.specs.Cells.{fixed_shapes, component_shapes}
+use Rattle.cells.specs.Owners.{owner_of, io_owner}
 use Rattle.pin_access.specs.EntryOrder.{system_of, IsEntryBefore}
 use Rattle.build.specs.declared.layer_names.LayerNames.{LayerNames}
-use Rattle.build.specs.LookUps.{layer_names_of, metals_of, pin_rects, owner_of}
+use Rattle.build.specs.LookUps.{layer_names_of, metals_of, connected_rects}
 use Rattle.build.specs.TrackLines.{AreTracksOf, routing_layers}
 
 -- a via of LEF; routing may use it where it is DEFAULT and its rectangles join two neighbouring levels
@@ -39,25 +41,22 @@ pub record IsTechOf (lef : Lef) (tech : Tech) : Type 0 where
   pub layers : tech.layers ≡ lef.layers
   pub vias : AllZip (IsViaOfLef tech) lef.vias tech.vias
 
--- rectangles of the input, as fixed shapes of an owner
-abbrev pub fixed_shape : Owner → Metal → Shape
-fixed_shape owner m = record { layer = m.0; rect = m.1; owner = owner; fixed = true }
-
 -- the shapes of rectangles of DEF
 abbrev pub shapes_on : LayerNames → Owner → List (List ℕ × Sides) → List Shape
-shapes_on names owner rects = map (fixed_shape owner) (metals_of names rects)
+shapes_on names owner rects = fixed_shapes owner (metals_of names rects)
 
--- the shapes of a pin of the design, where this function says whose it is
-abbrev pub pin_shapes : LayerNames → (List ℕ → Owner) → IoPin → List Shape
-pin_shapes names whose pin = shapes_on names (whose pin.name) pin.rects
+-- the shapes of a pin of the design, where this function says whose the pin of a connection is
+abbrev pub pin_shapes : LayerNames → (List ℕ × List ℕ → Owner) → IoPin → List Shape
+pin_shapes names whose pin = shapes_on names (io_owner whose pin.name) pin.rects
 
--- the shapes of the pins of the design in file order, then the blockages, which are nobody's
+-- the shapes of the components in file order, then those of the pins of the design, then the blockages, which are nobody's
 abbrev pub fixed_of : Lef → Def → List Shape
-fixed_of lef def = flat_map (pin_shapes (layer_names_of lef) (owner_of def.nets)) def.pins ++ shapes_on (layer_names_of lef) Nobody def.blockages
+fixed_of lef def =
+    flat_map (component_shapes lef.macros (owner_of def.nets)) def.components ++ flat_map (pin_shapes (layer_names_of lef) (owner_of def.nets)) def.pins ++ shapes_on (layer_names_of lef) Nobody def.blockages
 
--- a net with fewer than two pins has nothing to be joined
+-- a net with wiring of its own is wired already; one with fewer than two pins has nothing to be joined
 abbrev pub kind_of : DefNet → NetKind
-kind_of net = if nat_lt (length net.pins) 2 then Single else Routable
+kind_of net = if nat_lt 0 (length net.wiring) then Prewired else if nat_lt (length net.pins) 2 then Single else Routable
 
 -- without guides a net may run anywhere in the die: a box for each level
 abbrev pub whole_guide : Sides → List Layer → List (ℕ × Sides)
@@ -69,15 +68,15 @@ pub record AreEntriesOf (g : TrackSystem) (k : ℕ) (rects : List Metal) (entrie
   pub ordered : AllPairs IsEntryBefore entries
 
 -- pin k of a net, named by this connection
-pub record IsPinOf (layers : LayerNames) (io : List IoPin) (g : TrackSystem) (named : ℕ × (List ℕ × List ℕ)) (pin : Pin) : Type 0 where
+pub record IsPinOf (lef : Lef) (def : Def) (g : TrackSystem) (named : ℕ × (List ℕ × List ℕ)) (pin : Pin) : Type 0 where
   pub comp : pin.comp ≡ named.1.0
   pub name : pin.pin ≡ named.1.1
-  pub rects : pin.rects ≡ metals_of layers (pin_rects io named.1.1)
+  pub rects : pin.rects ≡ connected_rects lef def named.1
   pub entries : AreEntriesOf g named.0 pin.rects pin.entries
 
-pub record IsNetOf (layers : LayerNames) (io : List IoPin) (g : TrackSystem) (said : DefNet) (net : Net) : Type 0 where
+pub record IsNetOf (lef : Lef) (def : Def) (g : TrackSystem) (said : DefNet) (net : Net) : Type 0 where
   pub name : net.name ≡ said.name
-  pub pins : AllZip (IsPinOf layers io g) (enumerate_from 0 said.pins) net.pins
+  pub pins : AllZip (IsPinOf lef def g) (enumerate_from 0 said.pins) net.pins
   pub guide : net.guide ≡ whole_guide g.die g.tech.layers
   pub kind : net.kind ≡ kind_of said
   pub close : net.close ≡ said.close
@@ -94,7 +93,7 @@ pub record IsDesignOf (lef : Lef) (def : Def) (chosen : Options) (d : Design) : 
   pub tech : IsTechOf lef d.tech
   pub tracks : AreTracksOf lef def d.tracks
   pub grid : d.grid ≡ grid_of def chosen
-  pub nets : AllZip (IsNetOf (layer_names_of lef) def.pins (system_of d.tech d.tracks def.die)) def.nets d.nets
+  pub nets : AllZip (IsNetOf lef def (system_of d.tech d.tracks def.die)) def.nets d.nets
   pub fixed : d.fixed ≡ fixed_of lef def
   pub options : d.options ≡ chosen
   pub skipped : d.skipped ≡ skipped_of lef def

@@ -1,5 +1,5 @@
 -- What keeps a design from being built, one fault after the other: units, names, tracks and counts.
-use Rattle.std.specs.Prelude.{ℕ, ◌+◌, ◌*◌, ◌-◌, ◌%◌, ◌==◌, List, [], ◌∷◌, Bool, not, if◌then◌else◌, nat_lt, length, fold, sum_by, count_by, max, unsigned_abs, bytes_eq, Option, Some, None, unwrap_or}
+use Rattle.std.specs.Prelude.{ℕ, ◌+◌, ◌*◌, ◌-◌, ◌%◌, ◌==◌, List, [], ◌∷◌, Bool, not, if◌then◌else◌, nat_lt, length, fold, sum_by, count_by, max, unsigned_abs, Option, Some, None, unwrap_or, is_some}
 use Rattle.std.specs.List.{list_any, enumerate_from}
 use Rattle.std.specs.Option.{option_or}
 use Rattle.rt_base.specs.Sides.{Sides}
@@ -7,7 +7,6 @@ use Rattle.rt_base.specs.Conflict.{same_owner}
 use Rattle.rt_base.specs.Tiles.{columns_of, rows_of, column_of, row_of}
 use Rattle.rt_base.specs.declared.grid.Grid.{Grid}
 use Rattle.rt_base.specs.declared.tech.Layer.{Layer}
-use Rattle.rt_base.specs.declared.tech.Owner.{Owner}
 use Rattle.rt_base.specs.declared.tech.Owner.TheVariants.{Net as OfNet}
 use Rattle.rt_base.specs.declared.tech.Shape.{Shape}
 use Rattle.rt_base.specs.declared.tech.Tech.{Tech}
@@ -15,16 +14,20 @@ use Rattle.rt_base.specs.declared.tech.Via.{Via}
 use Rattle.track_graph.specs.declared.design.Net.{Net}
 use Rattle.track_graph.specs.declared.design.Pin.{Pin}
 use Rattle.lef_text.specs.declared.lef.Lef.{Lef}
+use Rattle.lef_text.specs.declared.lef.Macro.{Macro}
+use Rattle.def_text.specs.declared.def.Component.{Component}
 use Rattle.def_text.specs.declared.def.Def.{Def}
 use Rattle.def_text.specs.declared.def.DefNet.{DefNet}
 use Rattle.def_text.specs.declared.def.IoPin.{IoPin}
 use Rattle.def_text.specs.declared.def.TrackRow.{TrackRow}
+use Rattle.cells.specs.Cells.{macro_of}
+use Rattle.cells.specs.Owners.{owner_of}
 use Rattle.build.specs.declared.error.BuildError.{BuildError}
-use Rattle.build.specs.declared.error.BuildError.TheVariants.{Scale, NoComponent, NoPin, NoLayer, PinTwice, NoTracks, Limit}
+use Rattle.build.specs.declared.error.BuildError.TheVariants.{Scale, NoMacro, NoComponent, NoPin, NoLayer, PinTwice, NoTracks, Limit}
 use Rattle.build.specs.declared.error.Limited.{Limited}
 use Rattle.build.specs.declared.error.Limited.TheVariants.{RoutingLayers, UsableVias, Tracks, Nets, FixedShapes, Coordinate, Entries, Tiles, TileShapes}
 use Rattle.build.specs.declared.layer_names.LayerNames.{LayerNames}
-use Rattle.build.specs.LookUps.{layer_names_of, is_known, pin_names, is_io, owner_of}
+use Rattle.build.specs.LookUps.{layer_names_of, is_known, has_component, has_pin}
 use Rattle.build.specs.TrackLines.{is_used, line_count, routing_layers}
 use Rattle.build.specs.Built.{fixed_of}
 
@@ -60,16 +63,20 @@ rects_fault names rects = first_by (λ (r : List ℕ × Sides). layer_fault name
 abbrev pub pin_fault : LayerNames → IoPin → Option BuildError
 pin_fault names pin = rects_fault names pin.rects
 
--- a connection of net n, where this function says whose a pin is: components aren't known yet; PINS has no such pin; the pin is another net's
-abbrev pub connection_fault : List (List ℕ) → (List ℕ → Owner) → ℕ → List ℕ × List ℕ → Option BuildError
-connection_fault pins whose n c = first_of (
-    fault_if (not (is_io c)) (NoComponent c.0)
-    ∷ fault_if (not (list_any (bytes_eq c.1) pins)) (NoPin c.1)
-    ∷ fault_if (not (same_owner (whose c.1) (OfNet n))) (PinTwice c.1)
+-- the macro of a component
+abbrev pub component_fault : List Macro → Component → Option BuildError
+component_fault macros c = fault_if (not (is_some (macro_of macros c.of))) (NoMacro c.of)
+
+-- a connection of net n: there is no such component; the component, or PINS, has no such pin; the pin is another net's
+abbrev pub connection_fault : Lef → Def → ℕ → List ℕ × List ℕ → Option BuildError
+connection_fault lef def n c = first_of (
+    fault_if (not (has_component def c)) (NoComponent c.0)
+    ∷ fault_if (not (has_pin lef def c)) (NoPin c.1)
+    ∷ fault_if (not (same_owner (owner_of def.nets c) (OfNet n))) (PinTwice c.1)
     ∷ [])
 
-abbrev pub net_fault : List (List ℕ) → (List ℕ → Owner) → ℕ × DefNet → Option BuildError
-net_fault pins whose net = first_by (connection_fault pins whose net.0) net.1.pins
+abbrev pub net_fault : Lef → Def → ℕ × DefNet → Option BuildError
+net_fault lef def net = first_by (connection_fault lef def net.0) net.1.pins
 
 -- a routing layer for which no TRACKS statement is used
 abbrev pub level_fault : List TrackRow → Layer → Option BuildError
@@ -84,9 +91,10 @@ abbrev pub name_fault : Lef → Def → Option BuildError
 name_fault lef def = first_of (
     scale_fault lef def
     ∷ first_by (row_fault (layer_names_of lef)) def.tracks
+    ∷ first_by (component_fault lef.macros) def.components
     ∷ first_by (pin_fault (layer_names_of lef)) def.pins
     ∷ rects_fault (layer_names_of lef) def.blockages
-    ∷ first_by (net_fault (pin_names def.pins) (owner_of def.nets)) (enumerate_from 0 def.nets)
+    ∷ first_by (net_fault lef def) (enumerate_from 0 def.nets)
     ∷ first_by (level_fault def.tracks) (routing_layers lef.layers)
     ∷ limit_fault RoutingLayers (length (routing_layers lef.layers)) 16
     ∷ [])

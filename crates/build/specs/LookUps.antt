@@ -1,15 +1,15 @@
--- Layers and pins of the design by their names, and whose a pin is.
-use Rattle.std.specs.Prelude.{ℕ, List, [], Bool, ◌&&◌, ◌||◌, map, position, bytes_eq, codes, Option, Some, None, option_map, unwrap_or}
+-- Layers and pins by their names.
+use Rattle.std.specs.Prelude.{ℕ, List, [], Bool, ◌||◌, if◌then◌else◌, map, position, bytes_eq, Option, option_map, unwrap_or, is_some}
 use Rattle.std.specs.List.{list_any, filter_map, find}
 use Rattle.rt_base.specs.Sides.{Sides}
 use Rattle.rt_base.specs.declared.tech.Layer.{Layer}
 use Rattle.rt_base.specs.declared.tech.LayerNo.{LayerNo}
-use Rattle.rt_base.specs.declared.tech.Owner.{Owner}
-use Rattle.rt_base.specs.declared.tech.Owner.TheVariants.{Net as OfNet, Nobody}
 use Rattle.track_graph.specs.Metal.{Metal}
 use Rattle.lef_text.specs.declared.lef.Lef.{Lef}
-use Rattle.def_text.specs.declared.def.DefNet.{DefNet}
+use Rattle.def_text.specs.declared.def.Def.{Def}
 use Rattle.def_text.specs.declared.def.IoPin.{IoPin}
+use Rattle.cells.specs.Cells.{component_of, cell_pin}
+use Rattle.cells.specs.Owners.{is_io}
 use Rattle.build.specs.declared.layer_names.LayerNames.{LayerNames}
 
 -- the names of LEF's layers: of those that hold shapes, and of the others
@@ -42,18 +42,14 @@ pin_rects pins name = unwrap_or (option_map (λ (p : IoPin). p.rects) (find (λ 
 abbrev pub pin_names : List IoPin → List (List ℕ)
 pin_names pins = map (λ (p : IoPin). p.name) pins
 
--- a connection is to a pin of the design, and not to one of a component
-abbrev pub is_io : List ℕ × List ℕ → Bool
-is_io c = bytes_eq (codes "PIN") c.0
+-- a connection is to a pin of the design, or to one of a component that there is
+abbrev pub has_component : Def → List ℕ × List ℕ → Bool
+has_component def c = is_io c || is_some (component_of def.components c.0)
 
--- a net names a pin of the design
-abbrev pub names_pin : List ℕ → DefNet → Bool
-names_pin name net = list_any (λ (c : List ℕ × List ℕ). is_io c && bytes_eq name c.1) net.pins
+-- PINS or the component's macro has the pin of a connection
+abbrev pub has_pin : Lef → Def → List ℕ × List ℕ → Bool
+has_pin lef def c = if is_io c then list_any (bytes_eq c.1) (pin_names def.pins) else is_some (cell_pin lef.macros def.components c)
 
-abbrev pub owner_from : Option ℕ → Owner
-owner_from (Some n) = OfNet n
-owner_from None = Nobody
-
--- whose a pin of the design is: the first net's that names it, or nobody's
-abbrev pub owner_of : List DefNet → List ℕ → Owner
-owner_of nets name = owner_from (position (names_pin name) nets)
+-- the rectangles of the pin of a connection, where it is placed
+abbrev pub connected_rects : Lef → Def → List ℕ × List ℕ → List Metal
+connected_rects lef def c = if is_io c then metals_of (layer_names_of lef) (pin_rects def.pins c.1) else unwrap_or (cell_pin lef.macros def.components c) []

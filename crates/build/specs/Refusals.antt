@@ -11,7 +11,6 @@ use Rattle.def_text.specs.declared.def.Def.{Def}
 use Rattle.build.specs.declared.error.BuildError.{BuildError}
 use Rattle.pin_access.specs.EntryOrder.{system_of}
 use Rattle.build.specs.Built.{grid_of, fixed_of, IsTechOf, IsNetOf, IsDesignOf}
-use Rattle.build.specs.LookUps.{layer_names_of}
 use Rattle.build.specs.TrackLines.{AreTracksOf}
 use Rattle.build.specs.Faults.{name_fault, count_fault, size_fault}
 
@@ -22,7 +21,7 @@ pub record Parts (lef : Lef) (def : Def) : Type 0 where
   pub tracks : Tracks
   pub tracks_of : AreTracksOf lef def tracks
   pub nets : List Net
-  pub nets_of : AllZip (IsNetOf (layer_names_of lef) def.pins (system_of tech tracks def.die)) def.nets nets
+  pub nets_of : AllZip (IsNetOf lef def (system_of tech tracks def.die)) def.nets nets
 
 -- a fault of units, names, tracks or layers, else one of the counts of the texts, else one of the sizes of the design
 pub data Refuses (lef : Lef) (def : Def) (options : Options) : BuildError → Type 0 where

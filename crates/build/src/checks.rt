@@ -2,8 +2,10 @@
 ghost use Rattle.std.specs.Prelude.{◌≡◌, ◌<◌, ◌^◌, length};
 ghost use Rattle.std.specs.List.{enumerate_from, list_any};
 ghost use Rattle.def_text.specs.Defs.{IsDef};
-ghost use Rattle.build.specs.Faults.{first_by, scale_fault, layer_fault, row_fault, rects_fault, pin_fault, connection_fault, net_fault, level_fault, limit_fault, name_fault};
-ghost use Rattle.build.specs.Indexes.{Tells, owner_in};
+ghost use Rattle.build.specs.Faults.{first_by, scale_fault, layer_fault, row_fault, rects_fault, component_fault, pin_fault, connection_fault, net_fault, level_fault, limit_fault, name_fault};
+ghost use Rattle.build.specs.Indexes.{Tells};
+ghost use Rattle.cells.specs.Firsts.{ArePlaces};
+ghost use Rattle.build.specs.LookUps.{has_component as has_component_of, has_pin as has_pin_of};
 ghost use Rattle.build.specs.Indexing.{IsLookup};
 ghost use Rattle.build.specs.TrackLines.{is_used, routing_layers};
 
@@ -11,13 +13,12 @@ use crate::copies::copy_name;
 use crate::error::{BuildError, Limited};
 use crate::layer_names::LayerNames;
 use crate::lookup::Lookup;
-use crate::owners::{Owners, is_io};
 use crate::pin_names::has_name;
 use crate::track_lines::is_used;
-use def_text::{Def, DefNet, IoPin, TrackRow};
-use lef_text::Lef;
+use cells::{CellIndex, is_io};
+use def_text::{Component, Def, DefNet, IoPin, TrackRow};
+use lef_text::{Lef, Macro};
 use rt_base::{Layer, Name, Rect};
-use rt_forms::Names;
 use std::alloc::Global;
 
 /// Whether a count is at most so much.
@@ -99,24 +100,86 @@ fn check_pins(alloc: Global, layers: &LayerNames, pins: &[IoPin]) -> Result<(), 
     Ok(())
 }
 
+/// Whether LEF has the macro of a component.
+fn check_component(
+    alloc: Global,
+    cells: &CellIndex,
+    macros: &[Macro],
+    component: &Component,
+) -> Result<(), BuildError>
+    requires { ArePlaces (λ m. m.name) macros.now cells.now.macros }
+    ensures { Tells result (component_fault macros.now component.now) }
+{
+    if cells.macro_of(macros, component.of.bytes()).is_some() {
+        return Ok(());
+    }
+    let name = copy_name(alloc, &component.of)?;
+    Err(BuildError::NoMacro { name })
+}
+
+fn check_components(
+    alloc: Global,
+    cells: &CellIndex,
+    macros: &[Macro],
+    components: &[Component],
+) -> Result<(), BuildError>
+    requires { ArePlaces (λ m. m.name) macros.now cells.now.macros }
+    ensures { Tells result (first_by (component_fault macros.now) components.now) }
+{
+    for component in components {
+        check_component(alloc, cells, macros, component)?;
+    }
+    Ok(())
+}
+
+/// Whether a connection is to a pin of the design, or to one of a component that there is.
+fn has_component(def: &Def, known: &Lookup, connection: &(Name, Name)) -> bool
+    requires { ArePlaces (λ c. c.name) def.now.components known.now.cells.components }
+    ensures { result ≡ has_component_of def.now connection.now }
+{
+    if is_io(connection) {
+        return true;
+    }
+    let components = def.components.as_slice();
+    known
+        .cells
+        .component_of(components, connection.0.bytes())
+        .is_some()
+}
+
+/// Whether PINS or the component's macro has the pin of a connection.
+fn has_pin(lef: &Lef, def: &Def, known: &Lookup, connection: &(Name, Name)) -> bool
+    requires { IsLookup lef.now def.now known.now }
+    ensures { result ≡ has_pin_of lef.now def.now connection.now }
+{
+    if is_io(connection) {
+        return has_name(&known.pins, connection.1.bytes());
+    }
+    let macros = lef.macros.as_slice();
+    let components = def.components.as_slice();
+    known.cells.has_pin(macros, components, connection)
+}
+
 fn check_connection(
     alloc: Global,
-    pins: &Names,
-    owners: &Owners,
+    lef: &Lef,
+    def: &Def,
+    known: &Lookup,
     net: u32,
     connection: &(Name, Name),
 ) -> Result<(), BuildError>
-    ensures { Tells result (connection_fault pins.now (owner_in owners.now) net connection.now) }
+    requires { IsLookup lef.now def.now known.now }
+    ensures { Tells result (connection_fault lef.now def.now net connection.now) }
 {
-    if !is_io(connection) {
+    if !has_component(def, known, connection) {
         let name = copy_name(alloc, &connection.0)?;
         return Err(BuildError::NoComponent { name });
     }
-    if !has_name(pins, connection.1.bytes()) {
+    if !has_pin(lef, def, known, connection) {
         let name = copy_name(alloc, &connection.1)?;
         return Err(BuildError::NoPin { name });
     }
-    if !owners.owns(net, connection.1.bytes()) {
+    if !known.owners.owns(alloc, net, connection)? {
         let name = copy_name(alloc, &connection.1)?;
         return Err(BuildError::PinTwice { name });
     }
@@ -125,30 +188,34 @@ fn check_connection(
 
 fn check_connections(
     alloc: Global,
-    pins: &Names,
-    owners: &Owners,
+    lef: &Lef,
+    def: &Def,
+    known: &Lookup,
     net: u32,
     connections: &[(Name, Name)],
 ) -> Result<(), BuildError>
-    ensures { Tells result (first_by (connection_fault pins.now (owner_in owners.now) net) connections.now) }
+    requires { IsLookup lef.now def.now known.now }
+    ensures { Tells result (first_by (connection_fault lef.now def.now net) connections.now) }
 {
     for connection in connections {
-        check_connection(alloc, pins, owners, net, connection)?;
+        check_connection(alloc, lef, def, known, net, connection)?;
     }
     Ok(())
 }
 
 fn check_nets(
     alloc: Global,
-    pins: &Names,
-    owners: &Owners,
+    lef: &Lef,
+    def: &Def,
+    known: &Lookup,
     nets: &[DefNet],
 ) -> Result<(), BuildError>
-    requires { length nets.now < 2 ^ 32 }
-    ensures { Tells result (first_by (net_fault pins.now (owner_in owners.now)) (enumerate_from 0 nets.now)) }
+    requires known { IsLookup lef.now def.now known.now }
+    requires count { length nets.now < 2 ^ 32 }
+    ensures { Tells result (first_by (net_fault lef.now def.now) (enumerate_from 0 nets.now)) }
 {
     for (number, net) in nets.iter().enumerate() {
-        check_connections(alloc, pins, owners, number as u32, net.pins.as_slice())?;
+        check_connections(alloc, lef, def, known, number as u32, net.pins.as_slice())?;
     }
     Ok(())
 }
@@ -196,9 +263,15 @@ pub fn check_names(alloc: Global, lef: &Lef, def: &Def, known: &Lookup) -> Resul
 {
     check_scale(lef, def)?;
     check_rows(alloc, &known.layers, def.tracks.as_slice())?;
+    check_components(
+        alloc,
+        &known.cells,
+        lef.macros.as_slice(),
+        def.components.as_slice(),
+    )?;
     check_pins(alloc, &known.layers, def.pins.as_slice())?;
     check_rects(alloc, &known.layers, def.blockages.as_slice())?;
-    check_nets(alloc, &known.pins, &known.owners, def.nets.as_slice())?;
+    check_nets(alloc, lef, def, known, def.nets.as_slice())?;
     check_levels(alloc, lef.layers.as_slice(), def.tracks.as_slice())?;
     check_limit(
         Limited::RoutingLayers,

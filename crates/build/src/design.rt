@@ -62,12 +62,11 @@ fn assembled(
 {
     let tracks = tracks(alloc, tech.layers.as_slice(), def.tracks.as_slice())?;
     let on = Ground {
+        lef,
+        def,
+        known,
         tech: &tech,
         tracks: &tracks,
-        die: def.die,
-        layers: &known.layers,
-        names: &known.pins,
-        pins: def.pins.as_slice(),
     };
     let nets = nets(alloc, &on, def.nets.as_slice())?;
     let grid = Grid {

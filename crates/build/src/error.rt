@@ -46,12 +46,17 @@ pub enum BuildError {
         lef: u32,
         def: u32,
     },
-    /// A net names a component. Components aren't read yet, so none is known.
+    /// LEF has no macro of the name that a component has.
+    #[error("no macro {name}")]
+    NoMacro {
+        name: Name,
+    },
+    /// A net names a component that COMPONENTS hasn't.
     #[error("no component {name}")]
     NoComponent {
         name: Name,
     },
-    /// A net names a pin of the design that PINS hasn't.
+    /// A net names a pin that PINS, or the macro of the component, hasn't.
     #[error("no pin {name}")]
     NoPin {
         name: Name,

@@ -10,7 +10,6 @@ mod level_tracks;
 mod limits;
 mod lookup;
 mod nets;
-mod owners;
 mod pin_names;
 mod shapes;
 mod technology;

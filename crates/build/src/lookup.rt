@@ -5,20 +5,22 @@ ghost use Rattle.def_text.specs.Defs.{IsDef};
 ghost use Rattle.build.specs.Indexing.{IsLookup};
 
 use crate::layer_names::LayerNames;
-use crate::owners::Owners;
 use crate::pin_names::names_of_pins;
+use cells::{CellIndex, Owners};
 use def_text::Def;
 use lef_text::Lef;
 use rt_base::Memory;
 use rt_forms::Names;
 use std::alloc::Global;
 
-/// The names of layers and of pins of the design, and whose the pins are.
+/// The names of layers and of pins of the design, the macros and components by name, and whose the
+/// pins are.
 #[derive(Drop)]
 pub struct Lookup {
     pub layers: LayerNames,
     pub pins: Names,
     pub owners: Owners,
+    pub cells: CellIndex,
 }
 
 /// Look-ups by name.
@@ -31,5 +33,6 @@ pub fn look_ups(alloc: Global, lef: &Lef, def: &Def) -> Result<Lookup, Memory>
         layers: LayerNames::new(alloc, lef)?,
         pins: names_of_pins(alloc, def.pins.as_slice())?,
         owners: Owners::new(alloc, def.nets.as_slice())?,
+        cells: CellIndex::new(alloc, lef.macros.as_slice(), def.components.as_slice())?,
     })
 }

@@ -3,12 +3,13 @@ ghost use Rattle.std.specs.Prelude.{◌≡◌, ◌++◌, ◌<◌, ◌^◌, lengt
 ghost use Rattle.std.specs.List.{flat_map};
 ghost use Rattle.build.specs.Built.{shapes_on, pin_shapes, fixed_of};
 ghost use Rattle.lef_text.specs.IsLef.{IsLef};
-ghost use Rattle.build.specs.Indexes.{owner_in};
+ghost use Rattle.def_text.specs.Defs.{IsDef};
+ghost use Rattle.cells.specs.Indexes.{owner_in};
 ghost use Rattle.build.specs.Indexing.{IsLookup};
 
 use crate::layer_names::LayerNames;
 use crate::lookup::Lookup;
-use crate::owners::Owners;
+use cells::{Owners, add_components, add_rects};
 use def_text::{Def, IoPin};
 use lef_text::Lef;
 use rt_base::{Memory, Name, Owner, Rect, Shape};
@@ -25,15 +26,8 @@ fn add_shapes(
     requires { length layers.now.shaped < 2 ^ 32 }
     ensures { OnOk result (shapes.new.items ≡ shapes.old.items ++ shapes_on layers.now owner rects.now) }
 {
-    for (layer, rect) in layers.metals(alloc, rects)? {
-        shapes.push(Shape {
-            layer,
-            rect,
-            owner,
-            fixed: true,
-        })?;
-    }
-    Ok(())
+    let metals = layers.metals(alloc, rects)?;
+    add_rects(shapes, owner, &metals)
 }
 
 /// Adds the shapes of these pins.
@@ -48,13 +42,13 @@ fn add_pins(
     ensures { OnOk result (shapes.new.items ≡ shapes.old.items ++ flat_map (pin_shapes layers.now (owner_in owners.now)) pins.now) }
 {
     for pin in pins {
-        let owner = owners.owner(pin.name.bytes());
+        let owner = owners.owner(alloc, b"PIN", pin.name.bytes())?;
         add_shapes(alloc, shapes, layers, owner, pin.rects.as_slice())?;
     }
     Ok(())
 }
 
-/// The shapes of the pins of the design, and then the blockages.
+/// The shapes of the components, then those of the pins of the design, and then the blockages.
 pub fn fixed_shapes(
     alloc: Global,
     lef: &Lef,
@@ -62,11 +56,20 @@ pub fn fixed_shapes(
     known: &Lookup,
 ) -> Result<Vec<Shape>, Memory>
     requires lef { IsLef lef.now }
+    requires def { IsDef def.now }
     requires known { IsLookup lef.now def.now known.now }
     ensures { IfOk result (λ v. v.items ≡ fixed_of lef.now def.now) }
 {
     let mut shapes = Vec::new(alloc);
     let layers = &known.layers;
+    add_components(
+        alloc,
+        &mut shapes,
+        &known.owners,
+        &known.cells,
+        lef.macros.as_slice(),
+        def.components.as_slice(),
+    )?;
     add_pins(
         alloc,
         &mut shapes,

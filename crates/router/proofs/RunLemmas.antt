@@ -14,7 +14,7 @@ use Rattle.track_graph.specs.States.{state_of}
 use Rattle.journal_text.specs.Lines.{journal_lines}
 use Rattle.report.specs.Lines.{report_text}
 use Rattle.build.specs.declared.error.BuildError.{BuildError}
-use Rattle.build.specs.declared.error.BuildError.TheVariants.{Scale, NoComponent, NoPin, NoLayer, PinTwice, NoTracks, Limit, Memory as BuildMemory}
+use Rattle.build.specs.declared.error.BuildError.TheVariants.{Scale, NoMacro, NoComponent, NoPin, NoLayer, PinTwice, NoTracks, Limit, Memory as BuildMemory}
 use Rattle.shelf.specs.Faults.{HasRisen, counted, count_end}
 use Rattle.shelf.specs.Shelf.{Files, with_file, IsCutShort}
 use Rattle.router.specs.declared.outputs.Outputs.{Outputs}
@@ -95,6 +95,7 @@ cause_runs names before after done r cause files blocks s low high said =
 -- a refusal of the design
 build_runs : (names : FileNames) (before after : Moment) (done : Done) (e : BuildError) → Cause before.shelf after.shelf names (Build e) → after.shelf.files ≡ before.shelf.files → done.journal.blocks ≡ [] → done.status ≡ build_status e → Says before.sink after.sink (error_line (Build e)) → Runs names before after done
 build_runs names before after done (Scale lef def) cause files blocks s said = cause_runs names before after done (Build (Scale lef def)) cause files blocks s (lit≤ tt) (lit≤ tt) said
+build_runs names before after done (NoMacro name) cause files blocks s said = cause_runs names before after done (Build (NoMacro name)) cause files blocks s (lit≤ tt) (lit≤ tt) said
 build_runs names before after done (NoComponent name) cause files blocks s said = cause_runs names before after done (Build (NoComponent name)) cause files blocks s (lit≤ tt) (lit≤ tt) said
 build_runs names before after done (NoPin name) cause files blocks s said = cause_runs names before after done (Build (NoPin name)) cause files blocks s (lit≤ tt) (lit≤ tt) said
 build_runs names before after done (NoLayer name) cause files blocks s said = cause_runs names before after done (Build (NoLayer name)) cause files blocks s (lit≤ tt) (lit≤ tt) said

@@ -102,6 +102,7 @@ limit_text what count most = with_numbers (with_name (codes "limit") what) count
 
 abbrev pub build_text : BuildError → List ℕ
 build_text (build.Scale lef def) = with_numbers (codes "scale") lef def
+build_text (build.NoMacro name) = with_name (codes "no-macro") name
 build_text (build.NoComponent name) = with_name (codes "no-component") name
 build_text (build.NoPin name) = with_name (codes "no-pin") name
 build_text (build.NoLayer name) = with_name (codes "no-layer") name

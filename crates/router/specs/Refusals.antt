@@ -5,7 +5,7 @@ use Rattle.lef_text.specs.declared.error.LefError.TheVariants.{Memory as LefMemo
 use Rattle.def_text.specs.declared.error.DefError.{DefError}
 use Rattle.def_text.specs.declared.error.DefError.TheVariants.{Memory as DefMemory}
 use Rattle.build.specs.declared.error.BuildError.{BuildError}
-use Rattle.build.specs.declared.error.BuildError.TheVariants.{Scale, NoComponent, NoPin, NoLayer, PinTwice, NoTracks, Limit, Memory as BuildMemory}
+use Rattle.build.specs.declared.error.BuildError.TheVariants.{Scale, NoMacro, NoComponent, NoPin, NoLayer, PinTwice, NoTracks, Limit, Memory as BuildMemory}
 use Rattle.router.specs.declared.refusal.Refusal.{Refusal}
 use Rattle.router.specs.declared.refusal.Refusal.TheVariants.{Words, LefBytes, DefBytes, Lef, Def, Build, Read, Write, Memory}
 
@@ -19,6 +19,7 @@ def_most = 268435456
 -- 6 where names or units don't fit, 7 where a count is above its most
 abbrev pub build_status : BuildError → ℕ
 build_status (Scale lef def) = 6
+build_status (NoMacro name) = 6
 build_status (NoComponent name) = 6
 build_status (NoPin name) = 6
 build_status (NoLayer name) = 6

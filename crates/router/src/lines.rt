@@ -196,6 +196,7 @@ fn build_text(text: &mut Text, error: &BuildError) -> Result<(), Memory>
         BuildError::Scale { lef, def } => {
             with_numbers(text, b"scale", u64::from(*lef), u64::from(*def))
         }
+        BuildError::NoMacro { name } => with_name(text, b"no-macro", name.bytes()),
         BuildError::NoComponent { name } => with_name(text, b"no-component", name.bytes()),
         BuildError::NoPin { name } => with_name(text, b"no-pin", name.bytes()),
         BuildError::NoLayer { name } => with_name(text, b"no-layer", name.bytes()),

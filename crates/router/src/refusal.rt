@@ -95,6 +95,7 @@ fn build_status(error: &BuildError) -> u8
         BuildError::Limit { .. } => 7,
         BuildError::Memory => 10,
         BuildError::Scale { .. }
+        | BuildError::NoMacro { .. }
         | BuildError::NoComponent { .. }
         | BuildError::NoPin { .. }
         | BuildError::NoLayer { .. }

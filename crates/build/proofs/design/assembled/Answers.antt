@@ -3,10 +3,7 @@ use Rattle.rt_base.specs.declared.tech.Tech.{Tech}
 use Rattle.track_graph.specs.declared.design.Design.{Design}
 use Rattle.pin_access.specs.EntryOrder.{system_of}
 use Rattle.def_text.specs.declared.def.DefNet.{DefNet}
-use Rattle.def_text.specs.declared.def.IoPin.{IoPin}
 use Rattle.def_text.specs.Defs.{IsDefNet}
-use Rattle.build.specs.Ground.{IsGround}
-use Rattle.build.specs.LookUps.{pin_names}
 use Rattle.build.proofs.Assembling.{Stands, AreBuilt, IsAssembled, ground_is, grid_is, built_through, nets_through, sizes_through, too_large, refused, assembled_gives, assembled_fits, assembled_entries}
 use Rattle.build.proofs.design.assembled.Goals as goal
 
@@ -31,9 +28,8 @@ nets-requires c =
     } in
     let built : AreBuilt c.args.def.now tech c.in_ok-tracks.tracks = built_through def tech tracks c.as_slice-2.result.now c.as_slice.result.now c.as_slice-2.ensures c.as_slice.ensures c.in_ok-tracks.ensures.lines c.in_ok-tracks.ensures.steps in
     record {
-      ground = subst (λ (ps : List IoPin). IsGround tech c.in_ok-tracks.tracks c.args.def.now.die c.args.known.now.layers ps) (sym c.as_slice-3.ensures) (ground_is lef def options known tech tracks stands built);
-      names = c.requires.known.are_pin_names ∙ (ap pin_names (sym c.as_slice-3.ensures));
-      said = subst (λ (ns : List DefNet). All IsDefNet ns) (sym c.as_slice-4.ensures) c.requires.def.nets;
+      ground = ground_is lef def options known tech tracks stands built;
+      said = subst (λ (ns : List DefNet). All IsDefNet ns) (sym c.as_slice-3.ensures) c.requires.def.nets;
     }
 
 pub returns-in_err-check_sizes-clause-refusal : goal.returns-in_err-check_sizes-clause-refusal
@@ -58,8 +54,8 @@ returns-in_err-check_sizes-clause-refusal c =
     let built : AreBuilt c.args.def.now tech c.in_ok-tracks.tracks = built_through def tech tracks c.as_slice-2.result.now c.as_slice.result.now c.as_slice-2.ensures c.as_slice.ensures c.in_ok-tracks.ensures.lines c.in_ok-tracks.ensures.steps in
     let nets = c.in_ok-nets.nets in
     let g = system_of tech tracks def.die in
-    let nets_are = nets_through known.layers g def c.as_slice-3.result.now c.as_slice-4.result.now nets c.as_slice-3.ensures c.as_slice-4.ensures c.in_ok-nets.ensures in
-    let sizes = sizes_through lef def options _ c.deref.result.now c.as_slice-5.result.now nets (grid_is def options c.requires.least_tile c.requires.most_tile) (c.deref.ensures.value ∙ c.requires.shapes) c.as_slice-5.ensures in
+    let nets_are = nets_through lef g def c.as_slice-3.result.now nets c.as_slice-3.ensures c.in_ok-nets.ensures in
+    let sizes = sizes_through lef def options _ c.deref.result.now c.as_slice-4.result.now nets (grid_is def options c.requires.least_tile c.requires.most_tile) (c.deref.ensures.value ∙ c.requires.shapes) c.as_slice-4.ensures in
     refused lef def options c.from_residual-in_err-check_sizes.result c.in_err-check_sizes.field-0.0 c.from_residual-in_err-check_sizes.ensures.1
     (λ other. too_large lef def options known tech tracks nets c.in_err-check_sizes.field-0.0 stands built nets_are (sym sizes ∙ c.in_err-check_sizes.ensures other))
 
@@ -85,8 +81,8 @@ returns-clause-design c =
     let built : AreBuilt c.args.def.now tech c.in_ok-tracks.tracks = built_through def tech tracks c.as_slice-2.result.now c.as_slice.result.now c.as_slice-2.ensures c.as_slice.ensures c.in_ok-tracks.ensures.lines c.in_ok-tracks.ensures.steps in
     let nets = c.in_ok-nets.nets in
     let g = system_of tech tracks def.die in
-    let nets_are = nets_through known.layers g def c.as_slice-3.result.now c.as_slice-4.result.now nets c.as_slice-3.ensures c.as_slice-4.ensures c.in_ok-nets.ensures in
-    let sizes = sizes_through lef def options _ c.deref.result.now c.as_slice-5.result.now nets (grid_is def options c.requires.least_tile c.requires.most_tile) (c.deref.ensures.value ∙ c.requires.shapes) c.as_slice-5.ensures in
+    let nets_are = nets_through lef g def c.as_slice-3.result.now nets c.as_slice-3.ensures c.in_ok-nets.ensures in
+    let sizes = sizes_through lef def options _ c.deref.result.now c.as_slice-4.result.now nets (grid_is def options c.requires.least_tile c.requires.most_tile) (c.deref.ensures.value ∙ c.requires.shapes) c.as_slice-4.ensures in
     let d : Design = record { tech = tech; tracks = tracks; grid = record { die = c.args.def.now.die; tile = to_z w64 (of_z w64 c.args.options.tile) }; nets = nets; fixed = c.from_vec.result; options = c.args.options; skipped = c.in_ok-skipped.skipped } in
     let assembled : IsAssembled c.args.lef.now c.args.def.now c.args.options c.args.known.now d = record {
       stands = stands;
@@ -122,8 +118,8 @@ returns-clause-fits c =
     let built : AreBuilt c.args.def.now tech c.in_ok-tracks.tracks = built_through def tech tracks c.as_slice-2.result.now c.as_slice.result.now c.as_slice-2.ensures c.as_slice.ensures c.in_ok-tracks.ensures.lines c.in_ok-tracks.ensures.steps in
     let nets = c.in_ok-nets.nets in
     let g = system_of tech tracks def.die in
-    let nets_are = nets_through known.layers g def c.as_slice-3.result.now c.as_slice-4.result.now nets c.as_slice-3.ensures c.as_slice-4.ensures c.in_ok-nets.ensures in
-    let sizes = sizes_through lef def options _ c.deref.result.now c.as_slice-5.result.now nets (grid_is def options c.requires.least_tile c.requires.most_tile) (c.deref.ensures.value ∙ c.requires.shapes) c.as_slice-5.ensures in
+    let nets_are = nets_through lef g def c.as_slice-3.result.now nets c.as_slice-3.ensures c.in_ok-nets.ensures in
+    let sizes = sizes_through lef def options _ c.deref.result.now c.as_slice-4.result.now nets (grid_is def options c.requires.least_tile c.requires.most_tile) (c.deref.ensures.value ∙ c.requires.shapes) c.as_slice-4.ensures in
     let d : Design = record { tech = tech; tracks = tracks; grid = record { die = c.args.def.now.die; tile = to_z w64 (of_z w64 c.args.options.tile) }; nets = nets; fixed = c.from_vec.result; options = c.args.options; skipped = c.in_ok-skipped.skipped } in
     let assembled : IsAssembled c.args.lef.now c.args.def.now c.args.options c.args.known.now d = record {
       stands = stands;
@@ -159,8 +155,8 @@ returns-clause-entries c =
     let built : AreBuilt c.args.def.now tech c.in_ok-tracks.tracks = built_through def tech tracks c.as_slice-2.result.now c.as_slice.result.now c.as_slice-2.ensures c.as_slice.ensures c.in_ok-tracks.ensures.lines c.in_ok-tracks.ensures.steps in
     let nets = c.in_ok-nets.nets in
     let g = system_of tech tracks def.die in
-    let nets_are = nets_through known.layers g def c.as_slice-3.result.now c.as_slice-4.result.now nets c.as_slice-3.ensures c.as_slice-4.ensures c.in_ok-nets.ensures in
-    let sizes = sizes_through lef def options _ c.deref.result.now c.as_slice-5.result.now nets (grid_is def options c.requires.least_tile c.requires.most_tile) (c.deref.ensures.value ∙ c.requires.shapes) c.as_slice-5.ensures in
+    let nets_are = nets_through lef g def c.as_slice-3.result.now nets c.as_slice-3.ensures c.in_ok-nets.ensures in
+    let sizes = sizes_through lef def options _ c.deref.result.now c.as_slice-4.result.now nets (grid_is def options c.requires.least_tile c.requires.most_tile) (c.deref.ensures.value ∙ c.requires.shapes) c.as_slice-4.ensures in
     let d : Design = record { tech = tech; tracks = tracks; grid = record { die = c.args.def.now.die; tile = to_z w64 (of_z w64 c.args.options.tile) }; nets = nets; fixed = c.from_vec.result; options = c.args.options; skipped = c.in_ok-skipped.skipped } in
     let assembled : IsAssembled c.args.lef.now c.args.def.now c.args.options c.args.known.now d = record {
       stands = stands;

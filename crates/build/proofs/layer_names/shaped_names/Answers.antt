@@ -1,7 +1,7 @@
 use Rattle.std.proofs.Common.{◌∙◌, ℕ, List, [], ◌∷◌, ◌++◌, Bool, not, cond, map, take, sym, ap, bytes_eq}
 use Rattle.std.specs.List.{list_any}
 use Rattle.rt_base.specs.declared.tech.Layer.{Layer}
-use Rattle.build.proofs.Lists.{apart_name}
+use Rattle.cells.proofs.Lists.{apart_name}
 use Rattle.build.proofs.Steps.{apart_from_names, map_next}
 use Rattle.build.proofs.layer_names.shaped_names.Goals as goal
 

@@ -4,7 +4,7 @@ use Rattle.std.proofs.lemmas.List.{map-append, length_push}
 use Rattle.rt_base.specs.Sides.{Sides}
 use Rattle.rt_base.specs.declared.tech.Layer.{Layer}
 use Rattle.build.specs.TrackLines.{routing_layers}
-use Rattle.build.proofs.Lists.{enumerate_from-more}
+use Rattle.cells.proofs.Lists.{enumerate_from-more}
 use Rattle.build.proofs.Steps.{kept_count, kept_next, kept_skip}
 use Rattle.build.proofs.nets.guide.Goals.{then-layer+in_ok-push, else-layer}
 use Rattle.build.proofs.nets.guide.Goals as goal

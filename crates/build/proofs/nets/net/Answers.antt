@@ -3,6 +3,7 @@ use Rattle.std.specs.List.{AllZip, enumerate_from}
 use Rattle.std.proofs.lemmas.List.Elements.{All-map}
 use Rattle.rt_base.specs.Sides.{Sides}
 use Rattle.rt_base.specs.Ranges.{AreSidesWithin}
+use Rattle.rt_base.proofs.Ranges.{sides-weaker}
 use Rattle.rt_base.specs.declared.tech.Layer.{Layer}
 use Rattle.track_graph.specs.declared.design.Pin.{Pin}
 use Rattle.track_graph.specs.Designs.{IsPin}
@@ -15,11 +16,11 @@ use Rattle.build.proofs.nets.net.Goals as goal
 
 pub returns : goal.returns
 returns c =
-    let g = system_of c.args.on.now.tech.now c.args.on.now.tracks.now c.args.on.now.die in
-    let said = IsPinOf c.args.on.now.layers.now c.args.on.now.pins.now g in
+    let g = system_of c.args.on.now.tech.now c.args.on.now.tracks.now c.args.on.now.def.now.die in
+    let said = IsPinOf c.args.on.now.lef.now c.args.on.now.def.now g in
     let pins = c.in_ok-pins.field-0 in
-    let die = c.args.on.now.die in
-    let guide : c.in_ok-guide.field-0 ≡ whole_guide c.args.on.now.die c.args.on.now.tech.now.layers = c.in_ok-guide.ensures ∙ ap (whole_guide c.args.on.now.die) c.as_slice-2.ensures in
+    let die = c.args.on.now.def.now.die in
+    let guide : c.in_ok-guide.field-0 ≡ whole_guide c.args.on.now.def.now.die c.args.on.now.tech.now.layers = c.in_ok-guide.ensures ∙ ap (whole_guide c.args.on.now.def.now.die) c.as_slice-2.ensures in
     let zip : AllZip said (enumerate_from 0 c.args.said.now.pins) pins = subst (λ (cs : List (List ℕ × List ℕ)). AllZip said (enumerate_from 0 cs) pins) c.as_slice.ensures c.in_ok-pins.ensures.said in
     record {
       is_net_of = record {
@@ -33,6 +34,6 @@ returns c =
         pin_count = omega (arith, AllZip-length said (enumerate_from 0 c.args.said.now.pins) pins zip, length-enumerate_from 0 c.args.said.now.pins, c.requires.said.pin_count);
         pins = λ k p at. all_numbered (λ (q : ℕ × Pin). IsPin g q.0 q.1) pins k p c.in_ok-pins.ensures.fits at;
         guide = subst (λ (boxes : List (ℕ × Sides)). All (λ (b : ℕ × Sides). AreSidesWithin (2 ^ 32) b.1) boxes) (sym guide)
-            (All-map (λ (b : ℕ × Sides). AreSidesWithin (2 ^ 32) b.1) (λ (l : ℕ × Layer). (l.0, die)) (enumerate_from 0 (routing_layers c.args.on.now.tech.now.layers)) (λ k d lt. c.requires.ground.die_within));
+            (All-map (λ (b : ℕ × Sides). AreSidesWithin (2 ^ 32) b.1) (λ (l : ℕ × Layer). (l.0, die)) (enumerate_from 0 (routing_layers c.args.on.now.tech.now.layers)) (λ k d lt. sides-weaker (2 ^ 30) (2 ^ 32) die (omega arith) c.requires.ground.is_def.die));
       };
     }

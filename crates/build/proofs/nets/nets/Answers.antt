@@ -8,6 +8,6 @@ use Rattle.build.proofs.nets.nets.Goals as goal
 
 pub loop-each-preserved : goal.loop-each-preserved
 loop-each-preserved c =
-    let built = IsBuiltNet c.args.on.now.layers.now c.args.on.now.pins.now (system_of c.args.on.now.tech.now c.args.on.now.tracks.now c.args.on.now.die) in
+    let built = IsBuiltNet c.args.on.now.lef.now c.args.on.now.def.now (system_of c.args.on.now.tech.now c.args.on.now.tracks.now c.args.on.now.def.now.die) in
     subst (λ (ns : List Net). AllZip built (take (c.loop-each.each-index + 1) c.args.said.now) ns) (sym c.in_ok-push.ensures.ok)
     (taken_more built c.args.said.now c.loop-each.each-index c.each-item.result c.loop-each.nets c.in_ok-net.field-0 c.loop-each-test.true c.each-item.is c.loop-each.invariant c.in_ok-net.ensures)

@@ -5,4 +5,4 @@ use Rattle.build.specs.Ground.{IsBuiltNet}
 use Rattle.build.proofs.nets.nets.Given as goal
 
 abbrev pub invariant-loop-each : goal.invariant-loop-each
-invariant-loop-each l = AllZip (IsBuiltNet l.on.layers.now l.on.pins.now (system_of l.on.tech.now l.on.tracks.now l.on.die)) (take l.each-index l.said) l.nets
+invariant-loop-each l = AllZip (IsBuiltNet l.on.lef.now l.on.def.now (system_of l.on.tech.now l.on.tracks.now l.on.def.now.die)) (take l.each-index l.said) l.nets

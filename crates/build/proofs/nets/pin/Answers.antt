@@ -1,41 +1,44 @@
-use Rattle.std.proofs.Common.{◌≡◌, ◌∙◌, ◌↔◌, ◌^◌, ◌<◌, List, length, All, AllPairs, Contains, sym, ap, subst, arith}
-use Rattle.std.proofs.lemmas.List.Elements.{All-weaker}
+use Rattle.std.proofs.Common.{◌≡◌, ◌∙◌, ◌↔◌, ◌^◌, ◌<◌, ◌≤◌, ℕ, List, length, All, AllPairs, Contains, sym, ap, subst, arith}
+use Rattle.rt_base.specs.declared.tech.Tech.{Tech}
 use Rattle.rt_base.specs.declared.walk.Entry.{Entry}
+use Rattle.track_graph.specs.declared.design.Tracks.{Tracks}
 use Rattle.track_graph.specs.Designs.{IsMetal, FitsPin}
 use Rattle.track_graph.specs.Entries.{IsEntry}
 use Rattle.track_graph.specs.Metal.{Metal}
 use Rattle.pin_access.specs.EntryOrder.{system_of, IsEntryBefore}
-use Rattle.def_text.specs.declared.def.IoPin.{IoPin}
-use Rattle.def_text.specs.Defs.{IsIoPin, IsMetal as IsNamed}
-use Rattle.build.specs.LookUps.{metals_of, pin_rects}
-use Rattle.build.proofs.MetalLemmas.{metals_are}
-use Rattle.build.proofs.Steps.{rects_named}
+use Rattle.lef_text.specs.declared.lef.Lef.{Lef}
+use Rattle.def_text.specs.declared.def.Def.{Def}
+use Rattle.build.specs.declared.lookup.Lookup.{Lookup}
+use Rattle.build.specs.Ground.{IsGround}
+use Rattle.build.specs.LookUps.{connected_rects}
+use Rattle.build.proofs.MetalLemmas.{connected_metal, connected_few}
 use Rattle.build.proofs.nets.pin.Goals as goal
+
+are_metal : (lef : Lef) (def : Def) (known : Lookup) (tech : Tech) (tracks : Tracks) (c : List ℕ × List ℕ) (rects : List Metal) → IsGround lef def known tech tracks → rects ≡ connected_rects lef def c → All (IsMetal tech) rects
+are_metal lef def known tech tracks c rects g is = subst (λ (ms : List Metal). All (IsMetal tech) ms) (sym is) (connected_metal lef def tech c g.is_lef g.is_def g.same_layers)
+
+are_few : (lef : Lef) (def : Def) (known : Lookup) (tech : Tech) (tracks : Tracks) (c : List ℕ × List ℕ) (rects : List Metal) → IsGround lef def known tech tracks → rects ≡ connected_rects lef def c → length rects < 2 ^ 32
+are_few lef def known tech tracks c rects g is = omega (arith, ap length is, connected_few lef def c, g.few_shapes)
 
 pub entries-requires : goal.entries-requires
 entries-requires c =
-    let layers = c.args.on.now.layers.now in
-    let pins = c.args.on.now.pins.now in
-    let name = c.bytes.result.now in
-    let is : c.deref.result.now ≡ metals_of layers (pin_rects pins name) = c.deref.ensures.value ∙ c.in_ok-rects.ensures ∙ ap (metals_of layers) c.rects_of-said.ensures in
-    let named : All IsNamed (pin_rects pins name) = rects_named (λ rs. All IsNamed rs) pins name (λ k d lt. absurd (omega arith)) (All-weaker IsIoPin (λ (p : IoPin). All IsNamed p.rects) (λ p h. h.rects) pins c.requires.ground.are_pins) in
+    let on = c.args.on.now in
+    let is : c.deref.result.now ≡ connected_rects on.lef.now on.def.now c.args.connection.now = c.deref.ensures.value ∙ c.in_ok-rects.ensures in
     record {
-      tech = c.requires.ground.is_tech;
-      tracks = c.requires.ground.are_tracks;
-      rects = subst (λ (ms : List Metal). All (IsMetal c.args.on.now.tech.now) ms) (sym is) (metals_are layers c.args.on.now.tech.now (pin_rects pins name) c.requires.ground.shaped named);
-      count = subst (λ (ms : List Metal). length ms < 2 ^ 32) (sym is) (rects_named (λ rs. length (metals_of layers rs) < 2 ^ 32) pins name (omega arith) c.requires.ground.few_rects);
+      tech = c.requires.is_tech;
+      tracks = c.requires.are_tracks;
+      rects = are_metal on.lef.now on.def.now on.known.now on.tech.now on.tracks.now c.args.connection.now c.deref.result.now c.requires is;
+      count = are_few on.lef.now on.def.now on.known.now on.tech.now on.tracks.now c.args.connection.now c.deref.result.now c.requires is;
     }
 
 pub returns-clause-said : goal.returns-clause-said
 returns-clause-said c =
-    let layers = c.args.on.now.layers.now in
-    let pins = c.args.on.now.pins.now in
-    let g = system_of c.args.on.now.tech.now c.args.on.now.tracks.now c.args.on.now.die in
+    let g = system_of c.args.on.now.tech.now c.args.on.now.tracks.now c.args.on.now.def.now.die in
     let rects : c.deref.result.now ≡ c.from_vec.result = c.deref.ensures.value ∙ sym c.from_vec.ensures in
     record {
       comp = c.in_ok-copy_name.ensures;
       name = c.in_ok-copy_name-2.ensures;
-      rects = c.from_vec.ensures ∙ c.in_ok-rects.ensures ∙ ap (metals_of layers) (c.rects_of-said.ensures ∙ ap (pin_rects pins) c.bytes.ensures);
+      rects = c.from_vec.ensures ∙ c.in_ok-rects.ensures;
       entries = record {
         exactly = λ e.
             subst (λ (es : List Entry). Contains es e ↔ IsEntry g c.args.number c.from_vec.result e) (sym c.from_vec-2.ensures)
@@ -46,16 +49,13 @@ returns-clause-said c =
 
 pub returns-clause-fits : goal.returns-clause-fits
 returns-clause-fits c =
-    let layers = c.args.on.now.layers.now in
-    let pins = c.args.on.now.pins.now in
-    let name = c.bytes.result.now in
-    let g = system_of c.args.on.now.tech.now c.args.on.now.tracks.now c.args.on.now.die in
-    let is : c.from_vec.result ≡ metals_of layers (pin_rects pins name) = c.from_vec.ensures ∙ c.in_ok-rects.ensures ∙ ap (metals_of layers) c.rects_of-said.ensures in
+    let on = c.args.on.now in
+    let g = system_of c.args.on.now.tech.now c.args.on.now.tracks.now c.args.on.now.def.now.die in
+    let is : c.from_vec.result ≡ connected_rects on.lef.now on.def.now c.args.connection.now = c.from_vec.ensures ∙ c.in_ok-rects.ensures in
     let rects : c.deref.result.now ≡ c.from_vec.result = c.deref.ensures.value ∙ sym c.from_vec.ensures in
-    let named : All IsNamed (pin_rects pins name) = rects_named (λ rs. All IsNamed rs) pins name (λ k d lt. absurd (omega arith)) (All-weaker IsIoPin (λ (p : IoPin). All IsNamed p.rects) (λ p h. h.rects) pins c.requires.ground.are_pins) in
     record {
-      rect_count = subst (λ (ms : List Metal). length ms < 2 ^ 32) (sym is) (rects_named (λ rs. length (metals_of layers rs) < 2 ^ 32) pins name (omega arith) c.requires.ground.few_rects);
-      rects = subst (λ (ms : List Metal). All (IsMetal c.args.on.now.tech.now) ms) (sym is) (metals_are layers c.args.on.now.tech.now (pin_rects pins name) c.requires.ground.shaped named);
+      rect_count = are_few on.lef.now on.def.now on.known.now on.tech.now on.tracks.now c.args.connection.now c.from_vec.result c.requires is;
+      rects = are_metal on.lef.now on.def.now on.known.now on.tech.now on.tracks.now c.args.connection.now c.from_vec.result c.requires is;
       entries = subst (λ (es : List Entry). All (FitsPin g c.args.number c.from_vec.result) es) (sym c.from_vec-2.ensures)
           (subst (λ (ms : List Metal). All (FitsPin g c.args.number ms) c.in_ok-found.found.items) rects c.in_ok-found.ensures.fits);
     }

@@ -9,8 +9,8 @@ use Rattle.build.proofs.nets.pins.Goals as goal
 
 pub loop-number-preserved : goal.loop-number-preserved
 loop-number-preserved c =
-    let g = system_of c.args.on.now.tech.now c.args.on.now.tracks.now c.args.on.now.die in
-    let said = IsPinOf c.args.on.now.layers.now c.args.on.now.pins.now g in
+    let g = system_of c.args.on.now.tech.now c.args.on.now.tracks.now c.args.on.now.def.now.die in
+    let said = IsPinOf c.args.on.now.lef.now c.args.on.now.def.now g in
     let all = c.args.connections.now in
     let i = c.loop-number.number in (
       subst (λ (ps : List Pin). AllZip said (enumerate_from 0 (take (i + 1) all)) ps) (sym c.in_ok-push.ensures.ok)

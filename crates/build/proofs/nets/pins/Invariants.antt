@@ -8,5 +8,5 @@ use Rattle.build.proofs.nets.pins.Given as goal
 
 abbrev pub invariant-loop-number : goal.invariant-loop-number
 invariant-loop-number l =
-    AllZip (IsPinOf l.on.layers.now l.on.pins.now (system_of l.on.tech.now l.on.tracks.now l.on.die)) (enumerate_from 0 (take l.number l.connections)) l.pins
-    × All (λ (p : ℕ × Pin). IsPin (system_of l.on.tech.now l.on.tracks.now l.on.die) p.0 p.1) (enumerate_from 0 l.pins)
+    AllZip (IsPinOf l.on.lef.now l.on.def.now (system_of l.on.tech.now l.on.tracks.now l.on.def.now.die)) (enumerate_from 0 (take l.number l.connections)) l.pins
+    × All (λ (p : ℕ × Pin). IsPin (system_of l.on.tech.now l.on.tracks.now l.on.def.now.die) p.0 p.1) (enumerate_from 0 l.pins)

@@ -1,5 +1,5 @@
 use Rattle.std.proofs.Common.{◌∙◌, is_some, ap, bytes_eq}
-use Rattle.build.proofs.Lists.{is_some-position}
+use Rattle.cells.proofs.Lists.{is_some-position}
 use Rattle.build.proofs.pin_names.has_name.Goals as goal
 
 pub returns : goal.returns

@@ -2,7 +2,7 @@ use Rattle.std.proofs.Common.{◌∙◌, ℕ, List, [], ◌∷◌, ◌++◌, Boo
 use Rattle.std.specs.List.{list_any}
 use Rattle.def_text.specs.declared.def.IoPin.{IoPin}
 use Rattle.build.specs.LookUps.{pin_names}
-use Rattle.build.proofs.Lists.{apart_name}
+use Rattle.cells.proofs.Lists.{apart_name}
 use Rattle.build.proofs.Steps.{map_next}
 use Rattle.build.proofs.pin_names.names_of_pins.Goals as goal
 

@@ -1,7 +1,7 @@
 use Rattle.std.proofs.Common.{◌≡◌, ◌++◌, take}
 use Rattle.std.specs.List.{flat_map}
 use Rattle.build.specs.Built.{pin_shapes}
-use Rattle.build.specs.Indexes.{owner_in}
+use Rattle.cells.specs.Indexes.{owner_in}
 use Rattle.build.proofs.shapes.add_pins.Given as goal
 
 abbrev pub invariant-loop-pin : goal.invariant-loop-pin

@@ -6,7 +6,7 @@ use Rattle.rt_base.specs.declared.tech.Via.{Via}
 use Rattle.track_graph.specs.Levels.{routing_from, number_of}
 use Rattle.build.specs.Built.{IsViaOfLef}
 use Rattle.build.specs.Usable.{IsViaBy}
-use Rattle.build.proofs.Lists.{AllZip-weaker}
+use Rattle.cells.proofs.Lists.{AllZip-weaker}
 use Rattle.build.proofs.TechLemmas.{via_of_lef}
 use Rattle.build.proofs.technology.technology.Goals as goal
 

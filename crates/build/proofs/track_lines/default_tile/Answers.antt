@@ -4,7 +4,7 @@ use Rattle.std.proofs.lemmas.Option.{option_and_then_some}
 use Rattle.rt_base.specs.declared.tech.Layer.{Layer}
 use Rattle.def_text.specs.Defs.{IsTrackRow}
 use Rattle.build.specs.TrackLines.{is_used}
-use Rattle.build.proofs.Lists.{All-found}
+use Rattle.cells.proofs.Lists.{All-found}
 use Rattle.build.proofs.track_lines.default_tile.Goals as goal
 
 pub steps-requires : goal.steps-requires

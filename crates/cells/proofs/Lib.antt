@@ -1,0 +1,5 @@
+pub mod FirstLemmas
+pub mod KeyLemmas
+pub mod Lists
+pub mod Placing
+pub mod ShapeLemmas

@@ -1,0 +1,14 @@
+use Rattle.std.proofs.Common.{ℕ, List, subst}
+use Rattle.std.proofs.lemmas.List.{take_all}
+use Rattle.rt_base.specs.Sides.{Sides}
+use Rattle.rt_base.specs.declared.tech.LayerNo.{LayerNo}
+use Rattle.cells.specs.Firsts.{ArePlaces}
+use Rattle.cells.proofs.FirstLemmas.{claims_more}
+use Rattle.cells.proofs.index.pins_by_name.Goals as goal
+
+pub loop-place-preserved : goal.loop-place-preserved
+loop-place-preserved c =
+    claims_more (λ (p : List ℕ × List (LayerNo × Sides)). p.0) c.args.pins.now c.loop-place.place c.index-pins-place.result c.loop-place.places c.claim.new.self c.bytes.result.now c.loop-place-test.true c.index-pins-place.is c.bytes.ensures c.loop-place.invariant c.in_ok-claim.ensures.paired c.in_ok-claim.ensures.claimed
+
+pub returns : goal.returns
+returns c = subst (λ xs. ArePlaces (λ (p : List ℕ × List (LayerNo × Sides)). p.0) xs c.loop-place.places) (take_all c.loop-place.place c.args.pins.now c.loop-place-test.false) c.loop-place.invariant
