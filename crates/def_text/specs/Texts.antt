@@ -174,13 +174,12 @@ finished s = finished_of s.units s.die s
 
 -- ---- what is built for now
 
--- a net without wiring whose connections are pins of the design
-abbrev pub is_plain : DefNet → Bool
-is_plain n = nat_eq (length n.wiring) 0 && list_all (λ (c : List ℕ × List ℕ). bytes_eq c.0 (codes "PIN")) n.pins
+abbrev pub is_unwired : DefNet → Bool
+is_unwired n = nat_eq (length n.wiring) 0
 
--- what the design is built from for now: no vias, components and special nets, and plain nets
+-- what the design is built from for now: no vias, and no wiring
 abbrev pub is_built : Def → Bool
-is_built d = nat_eq (length d.vias) 0 && nat_eq (length d.components) 0 && nat_eq (length d.special) 0 && list_all is_plain d.nets
+is_built d = nat_eq (length d.vias) 0 && list_all is_unwired d.special && list_all is_unwired d.nets
 
 -- a text that has more is refused at this line, that of its END
 abbrev pub built : ℕ → Def → Result (Unit {0}) DefError

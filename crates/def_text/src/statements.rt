@@ -6,7 +6,7 @@ ghost use Rattle.rt_forms.specs.Form.{More, turn, loop};
 ghost use Rattle.rt_forms.specs.Word.{place_of};
 ghost use Rattle.def_text.specs.Faults.{def_faults};
 ghost use Rattle.def_text.specs.Defs.{IsDef, AreRanges};
-ghost use Rattle.def_text.specs.Texts.{IsParsed, units_statement as units_statement_form, die_statement as die_statement_form, tracks_statement as tracks_statement_form, vias_section as vias_section_form, components_section as components_section_form, pins_section as pins_section_form, blockages_section as blockages_section_form, special_section as special_section_form, nets_section as nets_section_form, statement as statement_form, or_none as or_none_of, finished as finished_of, is_plain as is_plain_of, is_built as is_built_of, built as built_of};
+ghost use Rattle.def_text.specs.Texts.{IsParsed, units_statement as units_statement_form, die_statement as die_statement_form, tracks_statement as tracks_statement_form, vias_section as vias_section_form, components_section as components_section_form, pins_section as pins_section_form, blockages_section as blockages_section_form, special_section as special_section_form, nets_section as nets_section_form, statement as statement_form, or_none as or_none_of, finished as finished_of, is_unwired as is_unwired_of, is_built as is_built_of, built as built_of};
 
 use crate::blockages::{Blocked, blockages};
 use crate::components::components;
@@ -372,42 +372,24 @@ pub fn finished(alloc: Global, parsed: Parsed) -> Result<Def, DefError>
     })
 }
 
-/// Whether a connection is to a pin of the design.
-fn is_io(pin: &(Name, Name)) -> bool
-    ensures { result ≡ bytes_eq pin.now.0 (codes "PIN") }
+fn is_unwired(net: &DefNet) -> bool
+    ensures { result ≡ is_unwired_of net.now }
 {
-    pin.0.bytes() == b"PIN".as_slice()
+    net.wiring.len() == 0
 }
 
-/// Whether connections are to pins of the design alone.
-fn are_io(pins: &[(Name, Name)]) -> bool
-    ensures { result ≡ list_all (λ (c : List ℕ × List ℕ). bytes_eq c.0 (codes "PIN")) pins.now }
+/// Whether none of these nets has wiring.
+fn are_unwired(nets: &[DefNet]) -> bool
+    ensures { result ≡ list_all is_unwired_of nets.now }
 {
-    pins.iter().all(|pin| is_io(pin))
-}
-
-/// Whether a net has no wiring, and connections to pins of the design alone.
-fn is_plain(net: &DefNet) -> bool
-    ensures { result ≡ is_plain_of net.now }
-{
-    net.wiring.len() == 0 && are_io(net.pins.as_slice())
-}
-
-/// Whether nets are so.
-fn are_plain(nets: &[DefNet]) -> bool
-    ensures { result ≡ list_all is_plain_of nets.now }
-{
-    nets.iter().all(|net| is_plain(net))
+    nets.iter().all(|net| is_unwired(net))
 }
 
 /// Whether a design is built from all that a text says.
 fn is_built(def: &Def) -> bool
     ensures { result ≡ is_built_of def.now }
 {
-    def.vias.len() == 0
-        && def.components.len() == 0
-        && def.special.len() == 0
-        && are_plain(def.nets.as_slice())
+    def.vias.len() == 0 && are_unwired(def.special.as_slice()) && are_unwired(def.nets.as_slice())
 }
 
 /// Refuses a text, whose END has this line, from all of which no design is built yet.

@@ -669,9 +669,8 @@ fn what_is_not_built_yet_is_refused_at_the_end(rt: HostRuntime) -> Result<(), Fa
     let alloc = rt.alloc();
     for text in [
         "VIAS 1 ; - V ; END VIAS",
-        "COMPONENTS 1 ; - u1 INV ; END COMPONENTS",
-        "SPECIALNETS 1 ; - VDD ; END SPECIALNETS",
-        "NETS 1 ; - a ( u1 A ) ; END NETS",
+        "SPECIALNETS 1 ; - VDD + ROUTED M1 100 ( 0 0 ) ( 1 * ) ; END SPECIALNETS",
+        "NETS 1 ; - a ( u1 A ) + ROUTED M1 ( 0 0 ) ( 1 * ) ; END NETS",
         "NETS 1 ; - a ( PIN p ) + ROUTED ; END NETS",
     ] {
         let whole = format!(in alloc;
