@@ -119,7 +119,7 @@ special_by tech Lead plus w = lead_then tech
 special_by tech OtherOption plus w = check (Err (Expected w.line))
 
 -- the option's own words alone, behind which a path should stand
-unfoldable pub empty_option : Form WireFault (List WirePath)
+abbrev pub empty_option : Form WireFault (List WirePath)
 empty_option = do
   _ ← a_name
   admit (λ w. None)

@@ -9,6 +9,7 @@ use Rattle.def_wires.specs.declared.wiring.WirePath.{WirePath}
 use Rattle.def_wires.specs.declared.wiring.WireStep.{WireStep}
 use Rattle.def_wires.specs.declared.wiring.WireStep.TheVariants.{Start, Go, Via as Through, Patch}
 use Rattle.def_wires.specs.declared.wiring.Spot.{Spot}
+use Rattle.def_wires.specs.declared.wiring.Joined.{Joined}
 use Rattle.def_wires.specs.declared.points.Corner.{Corner}
 use Rattle.def_wires.specs.declared.arrays.Array.{Array}
 use Rattle.def_wires.specs.declared.steps.OpenPath.{OpenPath}
@@ -53,6 +54,10 @@ pub record IsWirePath (tech : Tech) (path : WirePath) : Type 0 where
 -- layers, vias, widths, extensions and coordinates are in range, as those of wiring that is read are
 abbrev pub IsWiring : Tech → Wiring → Type 0
 IsWiring tech wiring = All (IsWirePath tech) wiring.paths
+
+-- both layers are among so many
+abbrev pub AreWithin : ℕ → Joined → Type 0
+AreWithin n j = (j.lower.0 < n) × (j.upper.0 < n)
 
 -- ---- while rectangles are made
 

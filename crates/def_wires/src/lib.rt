@@ -5,6 +5,8 @@ mod arrays;
 mod error;
 mod joined;
 mod names;
+mod options;
+mod paths;
 mod points;
 mod read;
 mod rectangles;

@@ -1,7 +1,7 @@
 //! Wiring of a net.
 ghost use Rattle.std.specs.Prelude.{◌≡◌, length, IfOk};
 ghost use Rattle.rt_base.specs.Tokens.{AllInside};
-ghost use Rattle.rt_forms.specs.Clauses.{ReadsText};
+ghost use Rattle.rt_forms.specs.Clauses.{Looks, ReadsText};
 ghost use Rattle.def_wires.specs.Faults.{wire_faults};
 ghost use Rattle.def_wires.specs.Sound.{IsWiring};
 ghost use Rattle.def_wires.specs.Names.{AreNamesOf};
@@ -9,9 +9,28 @@ ghost use Rattle.def_wires.specs.Options.{wiring_form};
 
 use crate::error::WireFault;
 use crate::names::TechNames;
+use crate::options::wiring;
 use crate::wiring::Wiring;
+use crate::words::Words;
 use rt_base::{Tech, Token};
 use std::alloc::Global;
+
+/// A range of wiring, with nothing behind it.
+fn whole_wiring(
+    alloc: Global,
+    words: &mut Words,
+    tech: &Tech,
+    names: &TechNames,
+    special: bool,
+) -> Result<Wiring, WireFault>
+    requires { AreNamesOf names.now tech.now }
+    ensures reads { Looks wire_faults (λ w. w) result words.old words.new (wiring_form tech.now special) }
+    ensures sound { IfOk result (IsWiring tech.now) }
+{
+    let wiring = wiring(alloc, words, tech, names, special)?;
+    words.end()?;
+    Ok(wiring)
+}
 
 /// The wiring that these tokens of a text say, of a net of NETS or, where `special`, of SPECIALNETS
 /// (DEF 5.8, Regular Wiring Statement and Special Wiring Statement). The tokens are those of one
@@ -33,5 +52,6 @@ pub fn read_wiring(
     ensures reads { ReadsText wire_faults (λ w. w) (wiring_form tech.now special) text.now tokens.now result }
     ensures sound { IfOk result (IsWiring tech.now) }
 {
-    Err(WireFault::Memory)
+    let mut words: Words = Words::new(text, tokens);
+    whole_wiring(alloc, &mut words, tech, names, special)
 }

@@ -3,10 +3,11 @@ ghost use Rattle.std.specs.Prelude.{◌≡◌, ◌^◌, ◌<◌, pos, ◌≤ℤ�
 ghost use Rattle.rt_base.specs.Ranges.{IsWithin, IsPointWithin};
 ghost use Rattle.rt_forms.specs.Word.{place_of};
 ghost use Rattle.rt_forms.specs.Clauses.{Reads};
-ghost use Rattle.rt_forms.specs.Form.{one, admit};
+ghost use Rattle.rt_forms.specs.Form.{one, admit, no_word as no_word_of};
 ghost use Rattle.rt_forms.specs.Lexeme.{first_of};
 ghost use Rattle.def_wires.specs.Faults.{wire_faults};
-ghost use Rattle.def_wires.specs.Sound.{IsLength};
+ghost use Rattle.def_wires.specs.Sound.{AreWithin};
+ghost use Rattle.def_wires.specs.Meaning.{joined_by as joined_by_of, rects_of_via};
 ghost use Rattle.def_wires.specs.Names.{AreNamesOf, KnowsLayers};
 ghost use Rattle.def_wires.specs.Words.{number_of, number_from as number_from_of, first_coordinate as first_coordinate_of, coordinate as coordinate_of, last_coordinate as last_coordinate_of, any_layer as any_layer_of, routing_layer as routing_layer_of, any_via as any_via_of, layers_of_via as layers_of_via_of, layer_beyond as layer_beyond_of, orient_of as orient_of_word, orient_next as orient_next_of, is_refused as is_refused_word, step_word as step_word_of, opening as opening_of};
 ghost use Rattle.def_wires.specs.Options.{option_word as option_word_of, plus_line};
@@ -205,6 +206,18 @@ pub fn via_in(word: Word, tech: &Tech, names: &TechNames) -> Result<u32, WireFau
     }
 }
 
+/// The two routing layers of a via, None where it hasn't rectangles on exactly two.
+fn joined_of_via(tech: &Tech, names: &TechNames, via: u32) -> Option<Joined>
+    requires names { AreNamesOf names.now tech.now }
+    requires via { via < length tech.now.vias }
+    ensures { result ≡ joined_by_of tech.now (rects_of_via tech.now via) }
+{
+    match names.joined.as_slice().get(via as usize) {
+        None => None,
+        Some(joined) => *joined,
+    }
+}
+
 /// The two routing layers of a via, whose name stands on this line.
 pub fn layers_of_via(
     tech: &Tech,
@@ -214,11 +227,12 @@ pub fn layers_of_via(
 ) -> Result<Joined, WireFault>
     requires names { AreNamesOf names.now tech.now }
     requires via { via < length tech.now.vias }
-    ensures { result ≡ layers_of_via_of tech.now line via }
+    ensures value { result ≡ layers_of_via_of tech.now line via }
+    ensures within { IfOk result (AreWithin (length tech.now.layers)) }
 {
-    match names.joined.as_slice().get(via as usize) {
-        Some(Some(joined)) => Ok(*joined),
-        Some(None) | None => Err(WireFault::ViaOffLayer { line }),
+    match joined_of_via(tech, names, via) {
+        None => Err(WireFault::ViaOffLayer { line }),
+        Some(joined) => Ok(joined),
     }
 }
 
@@ -232,7 +246,8 @@ pub fn layer_beyond(
 ) -> Result<LayerNo, WireFault>
     requires names { AreNamesOf names.now tech.now }
     requires via { via < length tech.now.vias }
-    ensures { result ≡ layer_beyond_of tech.now layer line via }
+    ensures value { result ≡ layer_beyond_of tech.now layer line via }
+    ensures inside { IfOk result (λ l. l.0 < length tech.now.layers) }
 {
     let joined = layers_of_via(tech, names, line, via)?;
     match joined.other(layer) {
@@ -339,6 +354,13 @@ pub fn opening(words: &mut Words) -> Result<(), WireFault>
         return Err(WireFault::Refused { line: word.line });
     }
     Err(WireFault::Expected { line: word.line })
+}
+
+/// Whether no word is left.
+pub fn no_word(words: &Words) -> bool
+    ensures { result ≡ no_word_of (first_of words.now) }
+{
+    words.peek().is_none()
 }
 
 /// A `+`, by its line.
