@@ -1,0 +1,9 @@
+pub mod Faults
+pub mod Meaning
+pub mod Sound
+pub mod Names
+pub mod Words
+pub mod Paths
+pub mod Options
+pub mod Vias
+pub mod Walks
