@@ -4,3 +4,4 @@ pub mod Placing
 pub mod Copies
 pub mod Opening
 pub mod Grammar
+pub mod ViaGrammar

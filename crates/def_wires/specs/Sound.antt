@@ -11,6 +11,7 @@ use Rattle.def_wires.specs.declared.wiring.WireStep.TheVariants.{Start, Go, Via 
 use Rattle.def_wires.specs.declared.wiring.Spot.{Spot}
 use Rattle.def_wires.specs.declared.wiring.Joined.{Joined}
 use Rattle.def_wires.specs.declared.points.Corner.{Corner}
+use Rattle.def_wires.specs.declared.vias.ViaParts.{ViaParts}
 use Rattle.def_wires.specs.declared.arrays.Array.{Array}
 use Rattle.def_wires.specs.declared.steps.OpenPath.{OpenPath}
 use Rattle.def_wires.specs.Meaning.{Metal}
@@ -88,3 +89,15 @@ pub record IsArray (a : Array) : Type 0 where
   pub columns : (pos 1 ≤ℤ a.columns) × (a.columns ≤ℤ pos (2 ^ 30))
   pub rows : (pos 1 ≤ℤ a.rows) × (a.rows ≤ℤ pos (2 ^ 30))
   pub step : IsPointWithin (2 ^ 30) a.step
+
+-- ---- while a via is read
+
+-- two numbers from low on
+abbrev pub IsPair : ℕ → ℤ × ℤ → Type 0
+IsPair low p = ((pos low ≤ℤ p.0) × (p.0 ≤ℤ pos (2 ^ 30))) × ((pos low ≤ℤ p.1) × (p.1 ≤ℤ pos (2 ^ 30)))
+
+pub record IsParts (parts : ViaParts) : Type 0 where
+  pub cut : IfSome parts.cut (IsPair 1)
+  pub spacing : IfSome parts.spacing (IsPair 0)
+  pub enclosure : IfSome parts.enclosure (λ e. IsPair 0 e.0 × IsPair 0 e.1)
+  pub array : IfSome parts.array (IsPair 1)

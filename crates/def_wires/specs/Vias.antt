@@ -104,7 +104,7 @@ unfoldable pub enclosure_part : Place → ViaParts → Form WireFault ViaParts
 enclosure_part w parts = if_new (is_some parts.enclosure) w (do
   b ← pair_from 0
   t ← pair_from 0
-  done (record parts { enclosure = Some (b.0, b.1, t.0, t.1) }))
+  done (record parts { enclosure = Some (b, t) }))
 
 -- rows, then columns
 unfoldable pub array_part : Place → ViaParts → Form WireFault ViaParts
@@ -140,9 +140,9 @@ columns_of None = pos 1
 columns_of (Some p) = p.1
 
 -- the generated form, where all its parts but ROWCOL stand; that has one row and one column by default
-abbrev pub generated_by : Bool → Option (ℤ × ℤ) → Option (LayerNo × LayerNo × LayerNo) → Option (ℤ × ℤ) → Option (ℤ × ℤ × ℤ × ℤ) → Option (ℤ × ℤ) → Option Generated
+abbrev pub generated_by : Bool → Option (ℤ × ℤ) → Option (LayerNo × LayerNo × LayerNo) → Option (ℤ × ℤ) → Option ((ℤ × ℤ) × (ℤ × ℤ)) → Option (ℤ × ℤ) → Option Generated
 generated_by true (Some cut) (Some layers) (Some spacing) (Some enclosure) array =
-    Some (record { cut = cut; layers = layers; spacing = spacing; enclosure = enclosure; rows = rows_of array; columns = columns_of array })
+    Some (record { cut = cut; layers = layers; spacing = spacing; enclosure = (enclosure.0.0, enclosure.0.1, enclosure.1.0, enclosure.1.1); rows = rows_of array; columns = columns_of array })
 generated_by _ _ _ _ _ _ = None
 
 abbrev pub form_of : ViaParts → Option Generated
@@ -155,17 +155,29 @@ generated_or_more (Some form) = done (generated_of form)
 
 -- ---- a via
 
--- behind a first `+` and its word
-abbrev pub via_by : Tech → ViaWord → Place → Form WireFault (List Metal)
-via_by tech Rect w = do
+-- rectangles behind a first `+ RECT`
+unfoldable pub rects_then : Tech → Form WireFault (List Metal)
+rects_then tech = do
   r ← via_rect tech
   loop (unless no_word (more_rects tech)) (r ∷ [])
-via_by tech RefusedInVia w = check (Err (Refused w.line))
-via_by tech OtherInVia w = check (Err (Expected w.line))
-via_by tech kind w = do
+
+-- options behind a first `+` and its word
+unfoldable pub parts_then : Tech → ViaWord → Place → Form WireFault (List Metal)
+parts_then tech kind w = do
   first ← part_by tech kind w no_parts
   parts ← loop (unless no_word (more_parts tech)) first
   generated_or_more (form_of parts)
+
+abbrev pub via_by : Tech → ViaWord → Place → Form WireFault (List Metal)
+via_by tech Rect w = rects_then tech
+via_by tech Rule w = parts_then tech Rule w
+via_by tech CutSize w = parts_then tech CutSize w
+via_by tech Layers w = parts_then tech Layers w
+via_by tech CutSpacing w = parts_then tech CutSpacing w
+via_by tech Enclosure w = parts_then tech Enclosure w
+via_by tech RowCol w = parts_then tech RowCol w
+via_by tech RefusedInVia w = parts_then tech RefusedInVia w
+via_by tech OtherInVia w = parts_then tech OtherInVia w
 
 -- the rectangles of a via
 unfoldable pub via_rects : Tech → Form WireFault (List Metal)

@@ -1,0 +1,12 @@
+use Rattle.std.proofs.Common.{length}
+use Rattle.rt_forms.specs.Form.{no_word}
+use Rattle.rt_forms.proofs.Loops.{Until}
+use Rattle.def_wires.specs.Faults.{wire_faults}
+use Rattle.def_wires.specs.Vias.{more_rects}
+use Rattle.def_wires.proofs.vias.further_rects.Given as goal
+
+abbrev pub invariant-rects : goal.invariant-rects
+invariant-rects l = Until wire_faults no_word (more_rects l.tech) l.rects l.words l.initial.rects l.initial.words
+
+abbrev pub decreases-rects : goal.decreases-rects
+decreases-rects l = length l.words
