@@ -1,11 +1,10 @@
 -- Numbers of names, as names come one after the other.
-use Rattle.std.proofs.Common.{◌≡◌, ℕ, zero, suc, ◌+◌, ◌<◌, ◌≤◌, List, [], ◌∷◌, ◌++◌, Bool, true, false, ◌||◌, not, cond, length, get_or, take, Option, Some, None, slice_get, option_and_then, position, is_some, bytes_eq, refl, sym, ap, ◌∙◌, inl, inr, arith}
+use Rattle.std.proofs.Common.{◌≡◌, ℕ, zero, suc, ◌+◌, ◌<◌, List, [], ◌∷◌, ◌++◌, Bool, true, false, ◌||◌, cond, length, get_or, take, Option, Some, None, slice_get, option_and_then, position, is_some, bytes_eq, refl, sym, ap, ◌∙◌, inl, inr, arith}
 use Rattle.std.specs.List.{list_any}
 use Rattle.std.specs.Option.{option_or}
 use Rattle.std.proofs.lemmas.Bool.{cases_Bool}
 use Rattle.std.proofs.lemmas.List.{length-take-le}
 use Rattle.std.proofs.lemmas.List.Quantifiers.{position-Some}
-use Rattle.std.proofs.lemmas.Option.{slice_get_cases, slice_get_past}
 use Rattle.rt_words.proofs.Words.{same}
 use Rattle.cells.specs.declared.firsts.Firsts.{Firsts}
 use Rattle.cells.specs.Firsts.{ArePaired, first_in, ArePlaces}

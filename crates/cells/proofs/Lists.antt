@@ -1,5 +1,5 @@
 -- Lists: what is found in them, names that are apart, and lists that correspond item by item.
-use Rattle.std.proofs.Common.{◌≡◌, ◌≢◌, ℕ, zero, suc, ◌+◌, ◌<◌, ◌≤◌, List, [], ◌∷◌, ◌++◌, length, get_or, take, map, Bool, true, false, ◌||◌, Option, Some, None, All, AllPairs, cond, slice_get, option_and_then, refl, sym, ap, subst, ◌∙◌, inl, inr, arith, bytes_eq, position, is_some}
+use Rattle.std.proofs.Common.{◌≡◌, ◌≢◌, ℕ, zero, suc, ◌+◌, ◌<◌, List, [], ◌∷◌, ◌++◌, length, get_or, take, map, Bool, true, false, ◌||◌, Option, Some, None, All, AllPairs, cond, slice_get, option_and_then, refl, sym, ap, subst, ◌∙◌, inl, inr, arith, bytes_eq, position, is_some}
 use Rattle.std.specs.Option.{option_or}
 use Rattle.std.specs.List.{find, AllZip, list_any, position_from, position_or_len, enumerate_from}
 use Rattle.std.proofs.lemmas.Bool.{cases_Bool, cases_lt, lt-ltb, le-ltb}

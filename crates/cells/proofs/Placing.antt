@@ -1,5 +1,5 @@
 -- Placed rectangles stay in range.
-use Rattle.std.proofs.Common.{◌≡◌, ℕ, ◌+◌, ◌^◌, ◌≤◌, ℤ, ◌+ℤ◌, ◌-ℤ◌, lit≤, arith}
+use Rattle.std.proofs.Common.{ℕ, ◌+◌, ◌^◌, ℤ, ◌+ℤ◌, ◌-ℤ◌, lit≤, arith}
 use Rattle.std.proofs.lemmas.Int.{ints}
 use Rattle.rt_base.specs.Sides.{Sides}
 use Rattle.rt_base.specs.Geometry.{low_of, high_of, moved}

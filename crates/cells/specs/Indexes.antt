@@ -1,5 +1,5 @@
 -- Look-ups by name, as the code keeps them.
-use Rattle.std.specs.Prelude.{◌≡◌, ℕ, ◌∷◌, List, [], length, position, bytes_eq}
+use Rattle.std.specs.Prelude.{◌≡◌, ℕ, ◌∷◌, List, []}
 use Rattle.std.specs.List.{AllZip}
 use Rattle.rt_base.specs.Sides.{Sides}
 use Rattle.rt_base.specs.declared.tech.LayerNo.{LayerNo}

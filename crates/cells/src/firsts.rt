@@ -16,7 +16,6 @@ impl<N: Copy + Drop> Firsts<N> {
     ghost use Rattle.std.specs.Option.{option_or};
     ghost use Rattle.cells.specs.Firsts.{ArePaired, first_in};
 
-
     /// No names. Takes no memory.
     pub fn new(alloc: Global) -> Firsts<N>
         ensures paired { ArePaired result }

@@ -127,10 +127,7 @@ impl CellIndex {
         ensures { option_copied result ≡ option_and_then (pin_in pin.now) (macro_of macros.now of.now) }
     {
         match self.macros.find(of) {
-            Some(k) => item_at(
-                macros[k].pins.as_slice(),
-                self.pins.as_slice()[k].find(pin),
-            ),
+            Some(k) => item_at(macros[k].pins.as_slice(), self.pins.as_slice()[k].find(pin)),
             None => None,
         }
     }

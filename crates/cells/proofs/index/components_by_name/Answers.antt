@@ -1,4 +1,4 @@
-use Rattle.std.proofs.Common.{ℕ, List, subst}
+use Rattle.std.proofs.Common.{subst}
 use Rattle.std.proofs.lemmas.List.{take_all}
 use Rattle.def_text.specs.declared.def.Component.{Component}
 use Rattle.cells.specs.Firsts.{ArePlaces}

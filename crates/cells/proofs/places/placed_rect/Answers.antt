@@ -1,4 +1,4 @@
-use Rattle.std.proofs.Common.{◌≡◌, ◌∙◌, ◌+◌, ◌^◌, ℤ, pos, ◌≤◌, FitsSigned, to_z, of_z, w64, unsigned_abs, subst, sym, ap, lit≤, arith}
+use Rattle.std.proofs.Common.{◌≡◌, ◌∙◌, ◌+◌, ◌^◌, ℤ, to_z, of_z, w64, subst, sym, ap, lit≤}
 use Rattle.std.proofs.lemmas.Int.{to_z-of_z}
 use Rattle.rt_base.specs.Sides.{Sides}
 use Rattle.rt_base.specs.Geometry.{moved}

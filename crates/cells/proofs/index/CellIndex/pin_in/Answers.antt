@@ -1,12 +1,10 @@
-use Rattle.std.proofs.Common.{◌≡◌, ◌∙◌, ℕ, ◌<◌, List, length, position, get_or, Some, None, Option, slice_get, option_and_then, refl, sym, ap, bytes_eq, arith}
-use Rattle.std.specs.List.{find}
+use Rattle.std.proofs.Common.{◌≡◌, ◌∙◌, ℕ, ◌<◌, List, length, position, get_or, Some, slice_get, option_and_then, refl, sym, ap, bytes_eq, arith}
 use Rattle.std.proofs.lemmas.List.Quantifiers.{position-Some}
 use Rattle.std.proofs.lemmas.Option.{slice_get_read}
 use Rattle.rt_base.specs.Sides.{Sides}
 use Rattle.rt_base.specs.declared.tech.LayerNo.{LayerNo}
 use Rattle.lef_text.specs.declared.lef.Macro.{Macro}
 use Rattle.cells.specs.declared.firsts.Firsts.{Firsts}
-use Rattle.cells.specs.Firsts.{first_in}
 use Rattle.cells.specs.Cells.{pin_in, macro_of}
 use Rattle.cells.specs.Indexes.{ArePinsOf}
 use Rattle.cells.proofs.Lists.{found_place, AllZip-at, AllZip-length}
@@ -37,7 +35,7 @@ returns-in-Some c =
     let there = at_place macros c.args.of.now k m at within c.index-macros-k.is in
     let same = c.as_slice-in-Some.ensures in
     let index : slice_get c.args.self.now.pins k ≡ Some pins =
-        slice_get_read c.args.self.now.pins (length c.args.self.now.pins) k pins refl (omega (arith, within, AllZip-length ArePinsOf macros c.args.self.now.pins c.requires.pins)) (c.index-as_slice-k.is ∙ ap (λ (fs : List (Firsts ℕ)). get_or fs k pins) same) in
+    slice_get_read c.args.self.now.pins (length c.args.self.now.pins) k pins refl (omega (arith, within, AllZip-length ArePinsOf macros c.args.self.now.pins c.requires.pins)) (c.index-as_slice-k.is ∙ ap (λ (fs : List (Firsts ℕ)). get_or fs k pins) same) in
     let places = AllZip-at ArePinsOf macros c.args.self.now.pins k m pins c.requires.pins there.0 index in
     c.item_at.ensures
     ∙ ap (λ (ps : List Pin). option_and_then (slice_get ps) c.find-in-Some.result) c.as_slice.ensures

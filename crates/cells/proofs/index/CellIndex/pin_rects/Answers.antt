@@ -1,4 +1,4 @@
-use Rattle.std.proofs.Common.{ℕ, List, bytes_eq, sym, subst}
+use Rattle.std.proofs.Common.{List, bytes_eq, sym, subst}
 use Rattle.rt_base.specs.Sides.{Sides}
 use Rattle.rt_base.specs.declared.tech.LayerNo.{LayerNo}
 use Rattle.def_text.specs.declared.def.Component.{Component}
