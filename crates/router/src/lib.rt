@@ -2,6 +2,8 @@
 //! routed design, its journal and its report.
 #![tactic(auto)]
 
+#[cfg(test)]
+mod cell_tests;
 mod lines;
 mod outputs;
 mod read;

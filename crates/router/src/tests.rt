@@ -137,10 +137,10 @@ fn files_of(alloc: Global, lef: &[u8], def: &[u8]) -> Result<Vec<(String, Vec<u8
 
 /// What a run leaves.
 #[derive(Drop)]
-struct Ran {
-    done: Done,
-    files: MemShelf,
-    out: MemSink,
+pub struct Ran {
+    pub done: Done,
+    pub files: MemShelf,
+    pub out: MemSink,
 }
 
 const ROUTE: [&str; 6] = ["route", "l", "d", "-", "o", "j"];
@@ -161,7 +161,7 @@ fn run_words(
 }
 
 /// Routes a design.
-fn route(alloc: Global, lef: &[u8], def: &[u8]) -> Result<Ran, AllocError> {
+pub fn route(alloc: Global, lef: &[u8], def: &[u8]) -> Result<Ran, AllocError> {
     run_words(alloc, &ROUTE, files_of(alloc, lef, def)?, &[], &[])
 }
 
