@@ -1,5 +1,5 @@
 -- What holds of generated vias.
-use Rattle.std.proofs.Common.{◌≡◌, ℕ, zero, suc, ◌+◌, ◌-◌, ◌*◌, ◌/◌, ◌^◌, ◌<◌, ◌≤◌, ◌==◌, Bool, true, false, if◌then◌else◌, List, [], ◌∷◌, ◌++◌, map, fold, Option, Some, None, Ok, ℤ, pos, ◌+ℤ◌, ◌-ℤ◌, ◌≤ℤ◌, unsigned_abs, refl, arith}
+use Rattle.std.proofs.Common.{ℕ, zero, suc, ◌+◌, ◌-◌, ◌*◌, ◌^◌, ◌<◌, ◌≤◌, ◌==◌, Bool, true, false, if◌then◌else◌, List, [], ◌∷◌, fold, Option, Some, None, ℤ, pos, unsigned_abs, refl, arith}
 use Rattle.std.specs.Prelude.{All, IfSome, unwrap_or}
 use Rattle.std.specs.List.{range_with_len, flat_map}
 use Rattle.std.proofs.lemmas.Int.{ints}
@@ -15,7 +15,7 @@ use Rattle.rt_shapes.proofs.CutLemmas.{low_end_sides, high_end_sides, cut_ends, 
 use Rattle.lef_text.specs.declared.library.FormLines.{FormLines}
 use Rattle.lef_text.specs.IsLef.{IsOn}
 use Rattle.lef_text.specs.OnLayers.{with_shape}
-use Rattle.lef_text.specs.GeneratedVias.{Layers, form_by, form_of, layer_of_part, on_layers, rects_by, rects_at_end}
+use Rattle.lef_text.specs.GeneratedVias.{Layers, form_by, form_of, layer_of_part, rects_by, rects_at_end}
 
 abbrev pub most : ℕ
 most = 2 ^ 60 + 2 ^ 30

@@ -1,5 +1,5 @@
 -- What holds of vias, and of the whole text.
-use Rattle.std.proofs.Common.{◌≡◌, ◌≢◌, ℕ, ◌+◌, ◌<◌, ◌^◌, ◌&&◌, nat_lt, Bool, true, false, not, List, [], ◌∷◌, ◌++◌, length, Result, Ok, Err, Option, Some, None, ℤ, pos, negsuc, ◌≤ℤ◌, nat_le, ◌≤◌, refl, sym, ◌∙◌, ap, subst, arith, bytes_eq, codes, position}
+use Rattle.std.proofs.Common.{◌≡◌, ◌≢◌, ℕ, ◌+◌, ◌<◌, ◌^◌, ◌&&◌, nat_lt, Bool, true, false, not, List, [], ◌∷◌, ◌++◌, length, Result, Ok, Err, Option, Some, None, ℤ, pos, negsuc, ◌≤ℤ◌, nat_le, refl, sym, ◌∙◌, ap, subst, arith, bytes_eq, codes, position}
 use Rattle.std.specs.Prelude.{All, IfSome}
 use Rattle.std.specs.List.{list_any, list_all}
 use Rattle.std.proofs.lemmas.Bool.Decides.{nat_tests}

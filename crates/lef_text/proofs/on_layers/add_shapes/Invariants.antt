@@ -1,4 +1,4 @@
-use Rattle.std.proofs.Common.{◌≡◌, drop, fold}
+use Rattle.std.proofs.Common.{◌≡◌, drop}
 use Rattle.lef_text.specs.OnLayers.{with_shapes}
 use Rattle.lef_text.proofs.on_layers.add_shapes.Given as goal
 
