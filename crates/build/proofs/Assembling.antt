@@ -1,7 +1,6 @@
 -- What is put together is the design of LEF and DEF, and what keeps it from being one is the first refusal.
-use Rattle.std.proofs.Common.{◌≡◌, ◌≢◌, ℕ, ◌^◌, ◌<◌, ◌≤◌, ℤ, pos, negsuc, ◌≤ℤ◌, unsigned_abs, FitsSigned, to_z, of_z, w64, List, Some, None, Result, Ok, Err, IfOk, IfErr, IsErrAnd, MatchResult, length, get_or, map, All, refl, sym, ap, subst, ◌∙◌, arith}
-use Rattle.std.specs.List.{AllZip, enumerate_from}
-use Rattle.std.proofs.lemmas.List.{length-map}
+use Rattle.std.proofs.Common.{◌≡◌, ◌≢◌, ◌^◌, ◌<◌, ◌≤◌, ℤ, pos, negsuc, ◌≤ℤ◌, unsigned_abs, FitsSigned, to_z, of_z, w64, List, Some, None, Result, Ok, Err, IfOk, IfErr, IsErrAnd, MatchResult, length, map, All, refl, sym, ap, subst, ◌∙◌, arith}
+use Rattle.std.specs.List.{AllZip}
 use Rattle.std.proofs.lemmas.Result.{err_from_is_err_and}
 use Rattle.rt_base.specs.Sides.{Sides}
 use Rattle.std.proofs.lemmas.Int.{ints, to_z-of_z, fits_signed_from_abs}
@@ -9,7 +8,6 @@ use Rattle.rt_base.specs.declared.grid.Grid.{Grid}
 use Rattle.rt_base.specs.declared.tech.Shape.{Shape}
 use Rattle.rt_base.specs.declared.tech.Layer.{Layer}
 use Rattle.rt_base.specs.declared.tech.Tech.{Tech}
-use Rattle.rt_base.proofs.Ranges.{sides-weaker}
 use Rattle.track_graph.specs.declared.design.Design.{Design}
 use Rattle.track_graph.specs.declared.design.Net.{Net}
 use Rattle.track_graph.specs.declared.design.Options.{Options}

@@ -1,7 +1,7 @@
 -- Steps of loops over lists that correspond item by item.
 use Rattle.std.proofs.Common.{◌≡◌, ℕ, zero, suc, ◌+◌, ◌<◌, ◌≤◌, List, [], ◌∷◌, ◌++◌, Bool, true, false, ◌||◌, cond, Some, None, Option, is_some, not, position, map, AllPairs, ◌≢◌, length, get_or, take, drop, slice_get, option_map, unwrap_or, All, bytes_eq, refl, sym, ap, subst, ◌∙◌, arith}
 use Rattle.std.specs.List.{AllZip, enumerate_from, filter, find, list_any}
-use Rattle.std.proofs.lemmas.List.{map_push, get_or-map, length-map, take_more, drop_more, take-append-drop, length-append, length-take-le, append-nil}
+use Rattle.std.proofs.lemmas.List.{map_push, get_or-map, length-map, drop_more, take-append-drop, length-append, length-take-le, append-nil}
 use Rattle.std.proofs.lemmas.List.Elements.{All-push, All-head, All-tail, filter_more, filter-append}
 use Rattle.std.proofs.lemmas.List.Folds.{list_any-append}
 use Rattle.std.proofs.lemmas.Option.{same_Some}

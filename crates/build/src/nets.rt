@@ -75,7 +75,9 @@ fn connected(
     }
     let macros = on.lef.macros.as_slice();
     let components = on.def.components.as_slice();
-    on.known.cells.pin_rects(alloc, macros, components, connection)
+    on.known
+        .cells
+        .pin_rects(alloc, macros, components, connection)
 }
 
 /// A pin of a net, named by a connection.

@@ -1,4 +1,4 @@
-use Rattle.std.proofs.Common.{◌≡◌, ◌∙◌, ℕ, List, Option, Some, None, sym, ap}
+use Rattle.std.proofs.Common.{◌≡◌, ◌∙◌, ℕ, List, Option, Some, sym, ap}
 use Rattle.rt_base.specs.declared.tech.Layer.{Layer}
 use Rattle.def_text.specs.declared.def.TrackRow.{TrackRow}
 use Rattle.build.specs.declared.error.BuildError.{BuildError}

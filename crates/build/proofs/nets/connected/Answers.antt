@@ -1,4 +1,4 @@
-use Rattle.std.proofs.Common.{◌≡◌, ◌∙◌, ◌<◌, ◌^◌, ℕ, List, [], Bool, true, false, cond, IfOk, length, All, unwrap_or, sym, ap, subst, arith}
+use Rattle.std.proofs.Common.{◌≡◌, ◌∙◌, ℕ, List, [], Bool, true, false, cond, IfOk, length, All, unwrap_or, sym, ap, subst, arith}
 use Rattle.std.proofs.lemmas.List.{length-map}
 use Rattle.rt_base.specs.Sides.{Sides}
 use Rattle.rt_base.specs.declared.tech.Layer.{Layer}
@@ -31,9 +31,9 @@ returns-then-is_io c =
     let io : is_io c.args.connection.now ≡ true = sym c.is_io.ensures ∙ c.if-is_io.true in
     let said = c.rects_of-said.ensures ∙ ap (λ (ps : List IoPin). pin_rects ps c.bytes.result.now) c.as_slice-pins.ensures ∙ ap (pin_rects def.pins) c.bytes.ensures in
     let is : metals_of c.args.on.now.known.now.layers c.rects_of-said.result.now ≡ connected_rects c.args.on.now.lef.now c.args.on.now.def.now c.args.connection.now =
-        ap (metals_of known.layers) said
-        ∙ ap (λ (f : List (List ℕ × Sides) → List Metal). f (pin_rects def.pins d.1)) (metals_same lef known.layers c.requires.is_lookup.are_layer_names)
-        ∙ sym (ap (λ (b : Bool). cond b (metals_of (layer_names_of lef) (pin_rects def.pins d.1)) cells) io) in
+    ap (metals_of known.layers) said
+    ∙ ap (λ (f : List (List ℕ × Sides) → List Metal). f (pin_rects def.pins d.1)) (metals_same lef known.layers c.requires.is_lookup.are_layer_names)
+    ∙ sym (ap (λ (b : Bool). cond b (metals_of (layer_names_of lef) (pin_rects def.pins d.1)) cells) io) in
     subst (λ (rs : List Metal). IfOk c.metals.result (λ v. v.items ≡ rs)) is c.metals.ensures
 
 pub pin_rects-requires-clause-index : goal.pin_rects-requires-clause-index
@@ -53,7 +53,7 @@ returns c =
     let d = c.args.connection.now in
     let io : is_io c.args.connection.now ≡ false = sym c.is_io.ensures ∙ c.if-is_io.false in
     let is : unwrap_or (cell_pin c.as_slice-macros.result.now c.as_slice-components.result.now c.args.connection.now) [] ≡ connected_rects c.args.on.now.lef.now c.args.on.now.def.now c.args.connection.now =
-        ap (λ (ms : List Macro). unwrap_or (cell_pin ms c.as_slice-components.result.now d) []) c.as_slice-macros.ensures
-        ∙ ap (λ (cs : List Component). unwrap_or (cell_pin lef.macros cs d) []) c.as_slice-components.ensures
-        ∙ sym (ap (λ (b : Bool). cond b (metals_of (layer_names_of lef) (pin_rects def.pins d.1)) (unwrap_or (cell_pin lef.macros def.components d) [])) io) in
+    ap (λ (ms : List Macro). unwrap_or (cell_pin ms c.as_slice-components.result.now d) []) c.as_slice-macros.ensures
+    ∙ ap (λ (cs : List Component). unwrap_or (cell_pin lef.macros cs d) []) c.as_slice-components.ensures
+    ∙ sym (ap (λ (b : Bool). cond b (metals_of (layer_names_of lef) (pin_rects def.pins d.1)) (unwrap_or (cell_pin lef.macros def.components d) [])) io) in
     subst (λ (rs : List Metal). IfOk c.pin_rects.result (λ v. v.items ≡ rs)) is c.pin_rects.ensures

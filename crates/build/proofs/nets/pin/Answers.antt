@@ -1,4 +1,4 @@
-use Rattle.std.proofs.Common.{◌≡◌, ◌∙◌, ◌↔◌, ◌^◌, ◌<◌, ◌≤◌, ℕ, List, length, All, AllPairs, Contains, sym, ap, subst, arith}
+use Rattle.std.proofs.Common.{◌≡◌, ◌∙◌, ◌↔◌, ◌^◌, ◌<◌, ℕ, List, length, All, AllPairs, Contains, sym, ap, subst, arith}
 use Rattle.rt_base.specs.declared.tech.Tech.{Tech}
 use Rattle.rt_base.specs.declared.walk.Entry.{Entry}
 use Rattle.track_graph.specs.declared.design.Tracks.{Tracks}
