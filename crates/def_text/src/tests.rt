@@ -482,7 +482,7 @@ fn damaged_texts_are_refused(rt: HostRuntime) -> Result<(), Fail> {
             "line 2: another word is expected",
         ),
         ("\"", "line 1: a quote isn't closed"),
-        ("VERSION 5.8 ;\n# \x07", "line 2: a byte that isn't text"),
+        ("VERSION 5.8 ;\n# \x07", "line 2: a byte isn't text"),
         ("DIEAREA\n0", "line 2: another word is expected"),
         ("DIEAREA ( 0\nx", "line 2: not a number"),
         (
