@@ -5,3 +5,5 @@ pub mod Copies
 pub mod Opening
 pub mod Grammar
 pub mod ViaGrammar
+pub mod Generating
+pub mod Within

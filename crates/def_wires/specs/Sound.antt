@@ -10,6 +10,7 @@ use Rattle.def_wires.specs.declared.wiring.WireStep.{WireStep}
 use Rattle.def_wires.specs.declared.wiring.WireStep.TheVariants.{Start, Go, Via as Through, Patch}
 use Rattle.def_wires.specs.declared.wiring.Spot.{Spot}
 use Rattle.def_wires.specs.declared.wiring.Joined.{Joined}
+use Rattle.rt_shapes.specs.declared.cut_array.Generated.{Generated}
 use Rattle.def_wires.specs.declared.points.Corner.{Corner}
 use Rattle.def_wires.specs.declared.vias.ViaParts.{ViaParts}
 use Rattle.def_wires.specs.declared.arrays.Array.{Array}
@@ -96,8 +97,14 @@ pub record IsArray (a : Array) : Type 0 where
 abbrev pub IsPair : ℕ → ℤ × ℤ → Type 0
 IsPair low p = ((pos low ≤ℤ p.0) × (p.0 ≤ℤ pos (2 ^ 30))) × ((pos low ≤ℤ p.1) × (p.1 ≤ℤ pos (2 ^ 30)))
 
-pub record IsParts (parts : ViaParts) : Type 0 where
+-- the parts of a via on so many layers
+pub record IsParts (layers : ℕ) (parts : ViaParts) : Type 0 where
+  pub on : IfSome parts.layers (λ l. (l.0.0 < layers) × (l.1.0 < layers) × (l.2.0 < layers))
   pub cut : IfSome parts.cut (IsPair 1)
   pub spacing : IfSome parts.spacing (IsPair 0)
   pub enclosure : IfSome parts.enclosure (λ e. IsPair 0 e.0 × IsPair 0 e.1)
   pub array : IfSome parts.array (IsPair 1)
+
+-- the layers of a generated via are among so many
+abbrev pub IsFormOn : ℕ → Generated → Type 0
+IsFormOn layers form = (form.layers.0.0 < layers) × (form.layers.1.0 < layers) × (form.layers.2.0 < layers)

@@ -315,7 +315,8 @@ fn add_path(metal: &mut Seq<(LayerNo, Rect)>, tech: &Tech, path: &WirePath) -> R
 pub fn denote(alloc: Global, wiring: &Wiring, tech: &Tech) -> Result<Seq<(LayerNo, Rect)>, Memory>
     requires tech { IsTech tech.now }
     requires wiring { IsWiring tech.now wiring.now }
-    ensures { IfOk result (λ metal. metal ≡ wiring_metal tech.now wiring.now) }
+    ensures value { IfOk result (λ metal. metal ≡ wiring_metal tech.now wiring.now) }
+    ensures within { IfOk result (λ metal. All (IsOn (length tech.now.layers) (2 ^ 62)) metal) }
 {
     let mut metal = Seq::new(alloc);
     'paths: for path in wiring.paths.as_slice() {

@@ -7,7 +7,7 @@ ghost use Rattle.rt_forms.specs.Clauses.{Reads, Looks, ReadsText};
 ghost use Rattle.rt_forms.specs.Form.{More, loop, unless, no_word as no_word_of};
 ghost use Rattle.rt_forms.specs.Word.{place_of};
 ghost use Rattle.def_wires.specs.Faults.{wire_faults};
-ghost use Rattle.def_wires.specs.Sound.{IsOn, IsParts, IsPair};
+ghost use Rattle.def_wires.specs.Sound.{IsOn, IsParts, IsPair, IsFormOn};
 ghost use Rattle.def_wires.specs.Names.{KnowsLayers};
 ghost use Rattle.def_wires.specs.Meaning.{Metal};
 ghost use Rattle.def_wires.specs.Vias.{via_word as via_word_of, via_rect as via_rect_form, rect_by, more_rects as more_rects_form, no_parts as no_parts_of, pair_from as pair_from_form, rule_part as rule_part_form, cut_part as cut_part_form, layers_part as layers_part_form, spacing_part as spacing_part_form, enclosure_part as enclosure_part_form, array_part as array_part_form, part_by, more_parts as more_parts_form, form_of as form_of_parts, generated_or_more, rows_of, columns_of, rects_then as rects_then_form, parts_then as parts_then_form, via_by, via_rects as via_rects_form, named_via as named_via_form, via_form};
@@ -39,7 +39,8 @@ pub struct ViaParts {
 #[tactic(auto, unfolding(crate::specs::Vias::via_rect))]
 fn via_rect(words: &mut Words, tech: &Tech, names: &TechNames) -> Result<(LayerNo, Rect), WireFault>
     requires { KnowsLayers names.now tech.now.layers }
-    ensures { Reads wire_faults (λ x. x) result words.old words.new (via_rect_form tech.now) }
+    ensures sound { IfOk result (IsOn (length tech.now.layers) (2 ^ 60 + 2 ^ 30)) }
+    ensures reads { Reads wire_faults (λ x. x) result words.old words.new (via_rect_form tech.now) }
 {
     let layer = any_layer(words, tech, names)?;
     let p = plain_point(words)?;
@@ -55,8 +56,10 @@ fn more_rects(
     names: &TechNames,
     rects: &mut Seq<(LayerNo, Rect)>,
 ) -> Result<(), WireFault>
-    requires { KnowsLayers names.now tech.now.layers }
-    ensures { Reads wire_faults (λ _. More rects.new) result words.old words.new (more_rects_form tech.now rects.old) }
+    requires names { KnowsLayers names.now tech.now.layers }
+    requires rects { All (IsOn (length tech.now.layers) (2 ^ 60 + 2 ^ 30)) rects.old }
+    ensures sound { OnOk result (All (IsOn (length tech.now.layers) (2 ^ 60 + 2 ^ 30)) rects.new) }
+    ensures reads { Reads wire_faults (λ _. More rects.new) result words.old words.new (more_rects_form tech.now rects.old) }
 {
     words.expect(b"+")?;
     let word = words.next()?;
@@ -84,8 +87,10 @@ fn further_rects(
     names: &TechNames,
     rects: &mut Seq<(LayerNo, Rect)>,
 ) -> Result<(), WireFault>
-    requires { KnowsLayers names.now tech.now.layers }
-    ensures { Looks wire_faults (λ _. rects.new) result words.old words.new (loop (unless no_word_of (more_rects_form tech.now)) rects.old) }
+    requires names { KnowsLayers names.now tech.now.layers }
+    requires rects { All (IsOn (length tech.now.layers) (2 ^ 60 + 2 ^ 30)) rects.old }
+    ensures sound { OnOk result (All (IsOn (length tech.now.layers) (2 ^ 60 + 2 ^ 30)) rects.new) }
+    ensures reads { Looks wire_faults (λ _. rects.new) result words.old words.new (loop (unless no_word_of (more_rects_form tech.now)) rects.old) }
 {
     'rects: while !no_word(words) {
         more_rects(words, tech, names, rects)?;
@@ -106,10 +111,15 @@ fn pair_from(words: &mut Words, low: u32) -> Result<(i64, i64), WireFault>
 
 /// Behind VIARULE: a name, which isn't used.
 #[tactic(auto, unfolding(crate::specs::Vias::rule_part))]
-fn rule_part(words: &mut Words, word: Word, parts: &mut ViaParts) -> Result<(), WireFault>
-    requires { IsParts parts.old }
+fn rule_part(
+    words: &mut Words,
+    tech: &Tech,
+    word: Word,
+    parts: &mut ViaParts,
+) -> Result<(), WireFault>
+    requires { IsParts (length tech.now.layers) parts.old }
     ensures reads { Looks wire_faults (λ _. parts.new) result words.old words.new (rule_part_form (place_of word.entry) parts.old) }
-    ensures sound { OnOk result (IsParts parts.new) }
+    ensures sound { OnOk result (IsParts (length tech.now.layers) parts.new) }
 {
     if parts.rule {
         return Err(WireFault::Expected { line: word.line });
@@ -121,10 +131,15 @@ fn rule_part(words: &mut Words, word: Word, parts: &mut ViaParts) -> Result<(), 
 
 /// Behind CUTSIZE.
 #[tactic(auto, unfolding(crate::specs::Vias::cut_part))]
-fn cut_part(words: &mut Words, word: Word, parts: &mut ViaParts) -> Result<(), WireFault>
-    requires { IsParts parts.old }
+fn cut_part(
+    words: &mut Words,
+    tech: &Tech,
+    word: Word,
+    parts: &mut ViaParts,
+) -> Result<(), WireFault>
+    requires { IsParts (length tech.now.layers) parts.old }
     ensures reads { Looks wire_faults (λ _. parts.new) result words.old words.new (cut_part_form (place_of word.entry) parts.old) }
-    ensures sound { OnOk result (IsParts parts.new) }
+    ensures sound { OnOk result (IsParts (length tech.now.layers) parts.new) }
 {
     if parts.cut.is_some() {
         return Err(WireFault::Expected { line: word.line });
@@ -144,9 +159,9 @@ fn layers_part(
     parts: &mut ViaParts,
 ) -> Result<(), WireFault>
     requires names { KnowsLayers names.now tech.now.layers }
-    requires parts { IsParts parts.old }
+    requires parts { IsParts (length tech.now.layers) parts.old }
     ensures reads { Looks wire_faults (λ _. parts.new) result words.old words.new (layers_part_form tech.now (place_of word.entry) parts.old) }
-    ensures sound { OnOk result (IsParts parts.new) }
+    ensures sound { OnOk result (IsParts (length tech.now.layers) parts.new) }
 {
     if parts.layers.is_some() {
         return Err(WireFault::Expected { line: word.line });
@@ -160,10 +175,15 @@ fn layers_part(
 
 /// Behind CUTSPACING.
 #[tactic(auto, unfolding(crate::specs::Vias::spacing_part))]
-fn spacing_part(words: &mut Words, word: Word, parts: &mut ViaParts) -> Result<(), WireFault>
-    requires { IsParts parts.old }
+fn spacing_part(
+    words: &mut Words,
+    tech: &Tech,
+    word: Word,
+    parts: &mut ViaParts,
+) -> Result<(), WireFault>
+    requires { IsParts (length tech.now.layers) parts.old }
     ensures reads { Looks wire_faults (λ _. parts.new) result words.old words.new (spacing_part_form (place_of word.entry) parts.old) }
-    ensures sound { OnOk result (IsParts parts.new) }
+    ensures sound { OnOk result (IsParts (length tech.now.layers) parts.new) }
 {
     if parts.spacing.is_some() {
         return Err(WireFault::Expected { line: word.line });
@@ -175,10 +195,15 @@ fn spacing_part(words: &mut Words, word: Word, parts: &mut ViaParts) -> Result<(
 
 /// Behind ENCLOSURE.
 #[tactic(auto, unfolding(crate::specs::Vias::enclosure_part))]
-fn enclosure_part(words: &mut Words, word: Word, parts: &mut ViaParts) -> Result<(), WireFault>
-    requires { IsParts parts.old }
+fn enclosure_part(
+    words: &mut Words,
+    tech: &Tech,
+    word: Word,
+    parts: &mut ViaParts,
+) -> Result<(), WireFault>
+    requires { IsParts (length tech.now.layers) parts.old }
     ensures reads { Looks wire_faults (λ _. parts.new) result words.old words.new (enclosure_part_form (place_of word.entry) parts.old) }
-    ensures sound { OnOk result (IsParts parts.new) }
+    ensures sound { OnOk result (IsParts (length tech.now.layers) parts.new) }
 {
     if parts.enclosure.is_some() {
         return Err(WireFault::Expected { line: word.line });
@@ -191,10 +216,15 @@ fn enclosure_part(words: &mut Words, word: Word, parts: &mut ViaParts) -> Result
 
 /// Behind ROWCOL: rows, then columns.
 #[tactic(auto, unfolding(crate::specs::Vias::array_part))]
-fn array_part(words: &mut Words, word: Word, parts: &mut ViaParts) -> Result<(), WireFault>
-    requires { IsParts parts.old }
+fn array_part(
+    words: &mut Words,
+    tech: &Tech,
+    word: Word,
+    parts: &mut ViaParts,
+) -> Result<(), WireFault>
+    requires { IsParts (length tech.now.layers) parts.old }
     ensures reads { Looks wire_faults (λ _. parts.new) result words.old words.new (array_part_form (place_of word.entry) parts.old) }
-    ensures sound { OnOk result (IsParts parts.new) }
+    ensures sound { OnOk result (IsParts (length tech.now.layers) parts.new) }
 {
     if parts.array.is_some() {
         return Err(WireFault::Expected { line: word.line });
@@ -214,17 +244,17 @@ fn part(
     parts: &mut ViaParts,
 ) -> Result<(), WireFault>
     requires names { KnowsLayers names.now tech.now.layers }
-    requires parts { IsParts parts.old }
+    requires parts { IsParts (length tech.now.layers) parts.old }
     ensures reads { Looks wire_faults (λ _. parts.new) result words.old words.new (part_by tech.now kind (place_of word.entry) parts.old) }
-    ensures sound { OnOk result (IsParts parts.new) }
+    ensures sound { OnOk result (IsParts (length tech.now.layers) parts.new) }
 {
     match kind {
-        ViaWord::Rule => rule_part(words, word, parts),
-        ViaWord::CutSize => cut_part(words, word, parts),
+        ViaWord::Rule => rule_part(words, tech, word, parts),
+        ViaWord::CutSize => cut_part(words, tech, word, parts),
         ViaWord::Layers => layers_part(words, tech, names, word, parts),
-        ViaWord::CutSpacing => spacing_part(words, word, parts),
-        ViaWord::Enclosure => enclosure_part(words, word, parts),
-        ViaWord::RowCol => array_part(words, word, parts),
+        ViaWord::CutSpacing => spacing_part(words, tech, word, parts),
+        ViaWord::Enclosure => enclosure_part(words, tech, word, parts),
+        ViaWord::RowCol => array_part(words, tech, word, parts),
         ViaWord::RefusedInVia => Err(WireFault::Refused { line: word.line }),
         ViaWord::Rect | ViaWord::OtherInVia => Err(WireFault::Expected { line: word.line }),
     }
@@ -239,9 +269,9 @@ fn more_parts(
     parts: &mut ViaParts,
 ) -> Result<(), WireFault>
     requires names { KnowsLayers names.now tech.now.layers }
-    requires parts { IsParts parts.old }
+    requires parts { IsParts (length tech.now.layers) parts.old }
     ensures reads { Reads wire_faults (λ _. More parts.new) result words.old words.new (more_parts_form tech.now parts.old) }
-    ensures sound { OnOk result (IsParts parts.new) }
+    ensures sound { OnOk result (IsParts (length tech.now.layers) parts.new) }
 {
     words.expect(b"+")?;
     let word = words.next()?;
@@ -256,9 +286,9 @@ fn further_parts(
     parts: &mut ViaParts,
 ) -> Result<(), WireFault>
     requires names { KnowsLayers names.now tech.now.layers }
-    requires parts { IsParts parts.old }
+    requires parts { IsParts (length tech.now.layers) parts.old }
     ensures reads { Looks wire_faults (λ _. parts.new) result words.old words.new (loop (unless no_word_of (more_parts_form tech.now)) parts.old) }
-    ensures sound { OnOk result (IsParts parts.new) }
+    ensures sound { OnOk result (IsParts (length tech.now.layers) parts.new) }
 {
     'parts: while !no_word(words) {
         more_parts(words, tech, names, parts)?;
@@ -280,10 +310,11 @@ fn array_of(array: Option<(i64, i64)>) -> (i64, i64)
 }
 
 /// The generated form, None where a part lacks.
-fn form_of(parts: &ViaParts) -> Option<Generated>
-    requires { IsParts parts.now }
+fn form_of(tech: &Tech, parts: &ViaParts) -> Option<Generated>
+    requires { IsParts (length tech.now.layers) parts.now }
     ensures value { result ≡ form_of_parts parts.now }
     ensures sound { IfSome result IsForm }
+    ensures on { IfSome result (IsFormOn (length tech.now.layers)) }
 {
     if !parts.rule {
         return None;
@@ -308,12 +339,14 @@ fn form_of(parts: &ViaParts) -> Option<Generated>
 fn finished(
     alloc: Global,
     words: &mut Words,
+    tech: &Tech,
     parts: &ViaParts,
 ) -> Result<Seq<(LayerNo, Rect)>, WireFault>
-    requires { IsParts parts.now }
-    ensures { Looks wire_faults (λ x. x) result words.old words.new (generated_or_more (form_of_parts parts.now)) }
+    requires { IsParts (length tech.now.layers) parts.now }
+    ensures sound { IfOk result (All (IsOn (length tech.now.layers) (2 ^ 60 + 2 ^ 30))) }
+    ensures reads { Looks wire_faults (λ x. x) result words.old words.new (generated_or_more (form_of_parts parts.now)) }
 {
-    match form_of(parts) {
+    match form_of(tech, parts) {
         None => {
             let word = words.next()?;
             Err(WireFault::Expected { line: word.line })
@@ -333,7 +366,8 @@ fn parts_then(
     word: Word,
 ) -> Result<Seq<(LayerNo, Rect)>, WireFault>
     requires { KnowsLayers names.now tech.now.layers }
-    ensures { Looks wire_faults (λ x. x) result words.old words.new (parts_then_form tech.now kind (place_of word.entry)) }
+    ensures sound { IfOk result (All (IsOn (length tech.now.layers) (2 ^ 60 + 2 ^ 30))) }
+    ensures reads { Looks wire_faults (λ x. x) result words.old words.new (parts_then_form tech.now kind (place_of word.entry)) }
 {
     let mut parts = ViaParts {
         rule: false,
@@ -345,7 +379,7 @@ fn parts_then(
     };
     part(words, tech, names, kind, word, &mut parts)?;
     further_parts(words, tech, names, &mut parts)?;
-    finished(alloc, words, &parts)
+    finished(alloc, words, tech, &parts)
 }
 
 /// Rectangles behind the first `+ RECT`.
@@ -357,7 +391,8 @@ fn rects_then(
     names: &TechNames,
 ) -> Result<Seq<(LayerNo, Rect)>, WireFault>
     requires { KnowsLayers names.now tech.now.layers }
-    ensures { Reads wire_faults (λ x. x) result words.old words.new (rects_then_form tech.now) }
+    ensures sound { IfOk result (All (IsOn (length tech.now.layers) (2 ^ 60 + 2 ^ 30))) }
+    ensures reads { Reads wire_faults (λ x. x) result words.old words.new (rects_then_form tech.now) }
 {
     let first = via_rect(words, tech, names)?;
     let mut rects = Seq::new(alloc);
@@ -375,7 +410,8 @@ fn via_by(
     word: Word,
 ) -> Result<Seq<(LayerNo, Rect)>, WireFault>
     requires { KnowsLayers names.now tech.now.layers }
-    ensures { Looks wire_faults (λ x. x) result words.old words.new (via_by tech.now (via_word_of word.entry.bytes.now) (place_of word.entry)) }
+    ensures sound { IfOk result (All (IsOn (length tech.now.layers) (2 ^ 60 + 2 ^ 30))) }
+    ensures reads { Looks wire_faults (λ x. x) result words.old words.new (via_by tech.now (via_word_of word.entry.bytes.now) (place_of word.entry)) }
 {
     let kind = via_word(word);
     match kind {
@@ -400,7 +436,8 @@ fn via_rects(
     names: &TechNames,
 ) -> Result<Seq<(LayerNo, Rect)>, WireFault>
     requires { KnowsLayers names.now tech.now.layers }
-    ensures { Reads wire_faults (λ x. x) result words.old words.new (via_rects_form tech.now) }
+    ensures sound { IfOk result (All (IsOn (length tech.now.layers) (2 ^ 60 + 2 ^ 30))) }
+    ensures reads { Reads wire_faults (λ x. x) result words.old words.new (via_rects_form tech.now) }
 {
     words.expect(b"+")?;
     let word = words.next()?;
@@ -417,7 +454,8 @@ fn named_via(
     names: &TechNames,
 ) -> Result<Via, WireFault>
     requires { KnowsLayers names.now tech.now.layers }
-    ensures { Reads wire_faults (λ x. x) result words.old words.new (named_via_form name.now tech.now) }
+    ensures sound { IfOk result (λ v. All (IsOn (length tech.now.layers) (2 ^ 60 + 2 ^ 30)) v.rects) }
+    ensures reads { Reads wire_faults (λ x. x) result words.old words.new (named_via_form name.now tech.now) }
 {
     let rects = via_rects(alloc, words, tech, names)?;
     Ok(Via {
@@ -436,7 +474,8 @@ fn whole_via(
     names: &TechNames,
 ) -> Result<Via, WireFault>
     requires { KnowsLayers names.now tech.now.layers }
-    ensures { Looks wire_faults (λ x. x) result words.old words.new (via_form name.now tech.now) }
+    ensures sound { IfOk result (λ v. All (IsOn (length tech.now.layers) (2 ^ 60 + 2 ^ 30)) v.rects) }
+    ensures reads { Looks wire_faults (λ x. x) result words.old words.new (via_form name.now tech.now) }
 {
     let via = named_via(alloc, name, words, tech, names)?;
     words.end()?;
@@ -459,7 +498,8 @@ pub fn read_via(
 ) -> Result<Via, WireFault>
     requires tokens { AllInside (length text.now) tokens.now }
     requires names { KnowsLayers names.now tech.now.layers }
-    ensures { ReadsText wire_faults (λ v. v) (via_form name.now tech.now) text.now tokens.now result }
+    ensures sound { IfOk result (λ v. All (IsOn (length tech.now.layers) (2 ^ 60 + 2 ^ 30)) v.rects) }
+    ensures reads { ReadsText wire_faults (λ v. v) (via_form name.now tech.now) text.now tokens.now result }
 {
     let mut words: Words = Words::new(text, tokens);
     whole_via(alloc, name, &mut words, tech, names)

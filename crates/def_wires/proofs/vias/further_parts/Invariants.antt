@@ -7,7 +7,7 @@ use Rattle.def_wires.specs.Vias.{more_parts}
 use Rattle.def_wires.proofs.vias.further_parts.Given as goal
 
 abbrev pub invariant-parts : goal.invariant-parts
-invariant-parts l = record { until : Until wire_faults no_word (more_parts l.tech) l.parts l.words l.initial.parts l.initial.words; sound : IsParts l.parts }
+invariant-parts l = record { until : Until wire_faults no_word (more_parts l.tech) l.parts l.words l.initial.parts l.initial.words; sound : IsParts (length l.tech.layers) l.parts }
 
 abbrev pub decreases-parts : goal.decreases-parts
 decreases-parts l = length l.words
