@@ -11,6 +11,8 @@ mod points;
 mod read;
 mod rectangles;
 mod steps;
+#[cfg(test)]
+mod tests;
 mod via_words;
 mod vias;
 mod wiring;
