@@ -59,6 +59,17 @@ fn said(alloc: Global, bytes: &[u8]) -> Result<(Seq<Token>, Def), DefError> {
     }
 }
 
+/// A text is refused, and this is said of it.
+fn answers(alloc: Global, text: &str, want: &str) -> Result<bool, Fail> {
+    match read(alloc, text) {
+        Ok(_) => Ok(false),
+        Err(error) => {
+            let said = format!(in alloc; "{error}")?;
+            Ok(said.as_str() == want)
+        }
+    }
+}
+
 /// The words of a range of tokens are these.
 fn is_range(bytes: &[u8], tokens: &[Token], range: (u32, u32), want: &str) -> bool {
     let (Some(first), Some(last)) = (
@@ -407,7 +418,7 @@ fn a_text_cut_short_is_unended(rt: HostRuntime) -> Result<(), Fail> {
 }
 
 #[test]
-fn damaged_texts_are_refused(rt: HostRuntime) -> Result<(), Fail> {
+fn damaged_statements_are_refused(rt: HostRuntime) -> Result<(), Fail> {
     let alloc = rt.alloc();
     for (text, want) in [
         ("", "line 1: the text ends"),
@@ -450,28 +461,6 @@ fn damaged_texts_are_refused(rt: HostRuntime) -> Result<(), Fail> {
             "TRACKS Y 1 DO 1 STEP 1 LAYER M1 MASK",
             "line 1: MASK is refused",
         ),
-        ("PINS 2 ;\n- p ;\nEND FOO", "PINS says 2 and has 1"),
-        ("PINS 2 ;\n- p ;\n- p ;", "line 3: p stands twice"),
-        ("PINS 1 ;\n- p + POLYGON", "line 2: POLYGON is refused"),
-        ("PINS 1 ;\n- p + LAYER M1 MASK", "line 2: MASK is refused"),
-        (
-            "PINS 1 ;\n- p\n+ PLACED ( 0 0 ) X",
-            "line 3: another word is expected",
-        ),
-        ("PINS 0 ; END NETS", "line 1: another word is expected"),
-        ("PINS -1 ;", "line 1: a number outside its range"),
-        ("PINS 0 ; END PINS\nPINS", "line 2: PINS stands twice"),
-        ("NETS 1 ;\n- MUSTJOIN", "line 2: MUSTJOIN is refused"),
-        ("NETS 1 ;\n- a + SUBNET", "line 2: SUBNET is refused"),
-        (
-            "NETS 1 ;\n- a\n( PIN p )\n( PIN q )\n( PIN r ) ;",
-            "line 5: not yet",
-        ),
-        (
-            "BLOCKAGES 1 ; - LAYER M1\n;",
-            "line 2: another word is expected",
-        ),
-        ("BLOCKAGES 1 ; END", "BLOCKAGES says 1 and has 0"),
         ("END DESIGN", "units is missing"),
         (
             "UNITS DISTANCE MICRONS 1 ; END DESIGN",
@@ -507,6 +496,27 @@ fn damaged_texts_are_refused(rt: HostRuntime) -> Result<(), Fail> {
         ("REGIONS 0 ; END\nGROUPS", "line 2: the text ends"),
         ("BEGINEXT \"a\nb\"", "line 1: the text ends"),
         ("- a ;", "line 1: no such statement"),
+    ] {
+        assert!(rt; answers(alloc, text, want)?, "{text}");
+    }
+    Ok(())
+}
+
+#[test]
+fn damaged_placements_are_refused(rt: HostRuntime) -> Result<(), Fail> {
+    let alloc = rt.alloc();
+    for (text, want) in [
+        ("PINS 2 ;\n- p ;\nEND FOO", "PINS says 2 and has 1"),
+        ("PINS 2 ;\n- p ;\n- p ;", "line 3: p stands twice"),
+        ("PINS 1 ;\n- p + POLYGON", "line 2: POLYGON is refused"),
+        ("PINS 1 ;\n- p + LAYER M1 MASK", "line 2: MASK is refused"),
+        (
+            "PINS 1 ;\n- p\n+ PLACED ( 0 0 ) X",
+            "line 3: another word is expected",
+        ),
+        ("PINS 0 ; END NETS", "line 1: another word is expected"),
+        ("PINS -1 ;", "line 1: a number outside its range"),
+        ("PINS 0 ; END PINS\nPINS", "line 2: PINS stands twice"),
         ("VIAS", "line 1: the text ends"),
         ("VIAS 1 ;\n- V + RECT M1 ( 0 0 )", "line 2: the text ends"),
         ("VIAS 2 ;\n- V ;\n- W ;\n- V", "line 4: V stands twice"),
@@ -562,6 +572,21 @@ fn damaged_texts_are_refused(rt: HostRuntime) -> Result<(), Fail> {
             "line 3: another word is expected",
         ),
         ("PINS 1 ;\n- p NET", "line 2: another word is expected"),
+    ] {
+        assert!(rt; answers(alloc, text, want)?, "{text}");
+    }
+    Ok(())
+}
+
+#[test]
+fn damaged_blockages_and_special_nets_are_refused(rt: HostRuntime) -> Result<(), Fail> {
+    let alloc = rt.alloc();
+    for (text, want) in [
+        (
+            "BLOCKAGES 1 ; - LAYER M1\n;",
+            "line 2: another word is expected",
+        ),
+        ("BLOCKAGES 1 ; END", "BLOCKAGES says 1 and has 0"),
         ("BLOCKAGES 1 ;\n- M1", "line 2: another word is expected"),
         (
             "BLOCKAGES 1 ;\n- LAYER M1 + SPACING\nRECT",
@@ -635,6 +660,22 @@ fn damaged_texts_are_refused(rt: HostRuntime) -> Result<(), Fail> {
             "SPECIALNETS 0 ;\nEND SPECIALNETS SPECIALNETS",
             "line 2: SPECIALNETS stands twice",
         ),
+    ] {
+        assert!(rt; answers(alloc, text, want)?, "{text}");
+    }
+    Ok(())
+}
+
+#[test]
+fn damaged_nets_are_refused(rt: HostRuntime) -> Result<(), Fail> {
+    let alloc = rt.alloc();
+    for (text, want) in [
+        ("NETS 1 ;\n- MUSTJOIN", "line 2: MUSTJOIN is refused"),
+        ("NETS 1 ;\n- a + SUBNET", "line 2: SUBNET is refused"),
+        (
+            "NETS 1 ;\n- a\n( PIN p )\n( PIN q )\n( PIN r ) ;",
+            "line 5: not yet",
+        ),
         (
             "NETS 1 ;\n- a ( u1\n* )",
             "line 3: another word is expected",
@@ -653,13 +694,7 @@ fn damaged_texts_are_refused(rt: HostRuntime) -> Result<(), Fail> {
             "line 3: the text ends",
         ),
     ] {
-        match read(alloc, text) {
-            Ok(_) => assert!(rt; false, "{text}"),
-            Err(error) => {
-                let said = format!(in alloc; "{error}")?;
-                assert_eq!(rt; said.as_str(), want, "{text}");
-            }
-        }
+        assert!(rt; answers(alloc, text, want)?, "{text}");
     }
     Ok(())
 }

@@ -10,4 +10,4 @@ pub overflow_cast-tokens : goal.overflow_cast-tokens
 overflow_cast-tokens c = omega (arith, few_cut c.args.bytes.now c.args.tokens.now c.requires.tokens, c.requires.text)
 
 pub statements-requires-clause-few : goal.statements-requires-clause-few
-statements-requires-clause-few c = omega (arith, few_cut c.args.bytes.now c.args.tokens.now c.requires.tokens, c.requires.text, c.new-words.ensures.count, c.nothing_read.ensures.value)
+statements-requires-clause-few c = omega (arith, few_cut c.args.bytes.now c.args.tokens.now c.requires.tokens, c.requires.text, c.new-words.ensures.count, c.nothing_read-parsed.ensures.value)
