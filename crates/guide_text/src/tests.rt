@@ -1,7 +1,15 @@
 //! Guide texts that are read, and damaged ones.
-use crate::{GuideError, read_guides};
+use crate::{GuideError, Guides, read_guides};
 use rt_base::{Point, Rect, ScanError};
+use std::alloc::Global;
 use std::test::Fail;
+
+fn read(alloc: Global, text: &[u8]) -> Result<Guides, GuideError> {
+    if text.len() > 100_000 {
+        return Err(GuideError::Memory);
+    }
+    read_guides(alloc, text)
+}
 
 const TEXT: &[u8] = b"a\n(\n0 0 1000 200 M1\n-5 0 10 +7 M2\n)\nb ( )\n";
 
@@ -87,7 +95,7 @@ const DAMAGED: [(&[u8], &str, u32); 32] = [
 #[test]
 fn damaged_texts_are_refused(rt: HostRuntime) -> Result<(), Fail> {
     for (text, kind, line) in &DAMAGED {
-        match read_guides(rt.alloc(), text) {
+        match read(rt.alloc(), text) {
             Ok(_) => assert!(rt; false),
             Err(error) => assert!(rt; kind_of(&error) == (*kind, *line)),
         }
