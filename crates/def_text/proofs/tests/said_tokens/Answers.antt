@@ -1,4 +1,5 @@
-use Rattle.std.proofs.Common.{arith}
+use Rattle.std.proofs.Common.{arith, ap}
+use Rattle.def_text.specs.declared.statements.Parsed.{Parsed}
 use Rattle.rt_base.proofs.Scanning.{made_inside}
 use Rattle.def_text.proofs.Closes.{few_cut}
 use Rattle.def_text.proofs.tests.said_tokens.Goals as goal
@@ -10,4 +11,4 @@ pub overflow_cast-tokens : goal.overflow_cast-tokens
 overflow_cast-tokens c = omega (arith, few_cut c.args.bytes.now c.args.tokens.now c.requires.tokens, c.requires.text)
 
 pub statements-requires-clause-few : goal.statements-requires-clause-few
-statements-requires-clause-few c = omega (arith, few_cut c.args.bytes.now c.args.tokens.now c.requires.tokens, c.requires.text, c.new-words.ensures.count, c.nothing_read-parsed.ensures.value)
+statements-requires-clause-few c = omega (arith, few_cut c.args.bytes.now c.args.tokens.now c.requires.tokens, c.requires.text, c.new-words.ensures.count, ap (λ (p : Parsed). p.skipped) c.nothing_read-parsed.ensures.value)
