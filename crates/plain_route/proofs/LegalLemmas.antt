@@ -30,7 +30,6 @@ use Rattle.track_graph.specs.Walks.{IsPath, PathInGuide, path_parts, parts_shape
 use Rattle.track_graph.proofs.EntryLemmas.{entry_vertex}
 use Rattle.track_graph.proofs.ShapeLemmas.{routing_number-below}
 use Rattle.plain_route.specs.declared.ground.Ground.{Ground}
-use Rattle.plain_route.specs.Ground.{meets_any}
 use Rattle.plain_route.specs.Obstacles.{AreObstacles}
 use Rattle.plain_route.specs.Routes.{AreLegalEdges, IsRoute, own_cost, IsLeastRoute, HasNoRoute}
 use Rattle.plain_route.specs.Stops.{AreEntries}
@@ -100,15 +99,15 @@ same_sum : (d : Design) (s : State) (n : ℕ) (parts : List (ℕ × List Metal))
 same_sum d s n [] = refl
 same_sum d s n (p ∷ ps) = omega (arith, sum_by-cons (part_cost d (hard_reading d s) n) p ps, sum_by-cons own_cost p ps, hard_part d s n p, same_sum d s n ps)
 
-module _ (d : Design) (s : State) (g : Ground) (starts finishes : List Entry) (ok : IsDesign d) (obstacles : AreObstacles d g.net (hard_reading d s).forbidding g.obstacles) (from : AreEntries d g.net (IsStart d s g.net) starts) (to : AreEntries d g.net (IsFinish d s g.net) finishes) where
+module _ (d : Design) (s : State) (g : Ground) (starts finishes : List Entry) (ok : IsDesign d) (obstacles : AreObstacles d.tech g.net (hard_reading d s).forbidding g.obstacles.kept) (from : AreEntries d g.net (IsStart d s g.net) starts) (to : AreEntries d g.net (IsFinish d s g.net) finishes) where
   abbrev Hits : List Metal → Bool
   Hits ms = some_conflict d.tech (shapes_of g.net ms) (hard_reading d s).forbidding
 
-  edge_same : (v : Vertex) (e : Edge) → IsEdge (track_system_of d) v e → meets_any d.tech g.obstacles (shapes_of g.net (edge_metal d v e)) ≡ Hits (edge_metal d v e)
-  edge_same v e is = meets_as_conflicts d g.net (hard_reading d s).forbidding g.obstacles (edge_metal d v e) obstacles (edge_layers d v e ok is)
+  edge_same : (v : Vertex) (e : Edge) → IsEdge (track_system_of d) v e → some_conflict d.tech (shapes_of g.net (edge_metal d v e)) g.obstacles.kept ≡ Hits (edge_metal d v e)
+  edge_same v e is = meets_as_conflicts d.tech g.net (hard_reading d s).forbidding g.obstacles.kept (edge_metal d v e) obstacles (edge_layers d v e ok is)
 
-  entry_same : (e : Entry) → IsNetEntry d g.net e → meets_any d.tech g.obstacles (shapes_of g.net (entry_part d g.net e).1) ≡ Hits (entry_part d g.net e).1
-  entry_same e is = meets_as_conflicts d g.net (hard_reading d s).forbidding g.obstacles (entry_part d g.net e).1 obstacles (entry_layers d g.net e ok is)
+  entry_same : (e : Entry) → IsNetEntry d g.net e → some_conflict d.tech (shapes_of g.net (entry_part d g.net e).1) g.obstacles.kept ≡ Hits (entry_part d g.net e).1
+  entry_same e is = meets_as_conflicts d.tech g.net (hard_reading d s).forbidding g.obstacles.kept (entry_part d g.net e).1 obstacles (entry_layers d g.net e ok is)
 
   abbrev PartsClear : List (ℕ × List Metal) → Type 0
   PartsClear parts = some_conflict d.tech (parts_shapes g.net parts) (hard_reading d s).forbidding ≡ false

@@ -10,3 +10,4 @@ pub mod RouteLemmas
 pub mod LegalLemmas
 pub mod StopLemmas
 pub mod WayLemmas
+pub mod CellLemmas

@@ -1,11 +1,9 @@
--- What shapes conflict with: the shapes by layer tell it of a net's shapes as the whole list does.
-use Rattle.std.proofs.Common.{◌≡◌, ⊎_elim, ℕ, zero, suc, ◌+◌, ◌<◌, ◌≤◌, List, [], ◌∷◌, ◌++◌, Bool, true, false, cond, not, ◌&&◌, ◌||◌, ◌==◌, length, fold, flat_map, get_or, drop, Option, slice_set, unwrap_or, All, refl, sym, subst, ap, ◌∙◌, arith}
+-- What shapes conflict with: the kept shapes tell it of a net's shapes as all do that forbid.
+use Rattle.std.proofs.Common.{◌≡◌, ℕ, zero, suc, ◌+◌, ◌<◌, ◌≤◌, List, [], ◌∷◌, ◌++◌, Bool, true, false, cond, not, ◌&&◌, ◌||◌, ◌==◌, length, fold, flat_map, get_or, drop, nat_lt, All, refl, sym, subst, ap, ◌∙◌, arith}
 use Rattle.std.specs.List.{list_any}
-use Rattle.std.proofs.lemmas.Bool.{cases_eq}
 use Rattle.std.proofs.lemmas.Bool.Decides.{nat_tests}
-use Rattle.std.proofs.lemmas.List.{length-set, get_or-set_same, get_or-set_other, drop_more}
-use Rattle.std.proofs.lemmas.List.Elements.{All-head, All-tail}
-use Rattle.std.proofs.lemmas.Option.{slice_get_past, unwrap_or-slice_get}
+use Rattle.std.proofs.lemmas.List.{drop_more}
+use Rattle.std.proofs.lemmas.List.Elements.{All-head, All-tail, All-nil, All-cons, All-append}
 use Rattle.rt_base.specs.Conflict.{conflict_of, same_owner, is_near_of, spacing_of}
 use Rattle.rt_base.specs.Geometry.{gap_x, gap_y}
 use Rattle.rt_base.specs.declared.tech.Owner.{Owner}
@@ -20,8 +18,7 @@ use Rattle.track_graph.specs.Rules.{every_net}
 use Rattle.track_graph.specs.Searches.{some_conflict}
 use Rattle.track_graph.specs.States.{net_shapes, standing_from}
 use Rattle.track_graph.specs.Walks.{walk_shapes_of}
-use Rattle.plain_route.specs.Ground.{row_at, meets_any}
-use Rattle.plain_route.specs.Obstacles.{added, AreObstacles}
+use Rattle.plain_route.specs.Obstacles.{may_forbid, added, AreObstacles}
 
 pub any_append : {X : Type 0} (p : X → Bool) (xs ys : List X) → list_any p (xs ++ ys) ≡ (list_any p xs || list_any p ys)
 any_append p [] ys = refl
@@ -47,26 +44,17 @@ fold-append f y (x ∷ xs) zs = fold-append f (f y x) xs zs
 pub fold_on : {X Y : Type 0} (f : Y → X → Y) (y : Y) (xs : List X) (i : ℕ) (d : X) (whole : Y) → i < length xs → fold f y (drop i xs) ≡ whole → fold f (f y (get_or xs i d)) (drop (i + 1) xs) ≡ whole
 fold_on f y xs i d whole h e = rw (drop_more xs i d h) at e
 
-pub fold_walks : (d : Design) (n owner : ℕ) (rows mid : List (List Shape)) (ws : List Walk) (i : ℕ) (w : Walk) (whole : List (List Shape)) → i < length ws → get_or ws i w ≡ w → fold (added n) rows (flat_map (walk_shapes_of d owner) (drop i ws)) ≡ whole → mid ≡ fold (added n) rows (walk_shapes_of d owner w) → fold (added n) mid (flat_map (walk_shapes_of d owner) (drop (i + 1) ws)) ≡ whole
-fold_walks d n owner rows mid ws i w whole h at e is =
+pub fold_walks : (d : Design) (n owner : ℕ) (kept mid : List Shape) (ws : List Walk) (i : ℕ) (w : Walk) (whole : List Shape) → i < length ws → get_or ws i w ≡ w → fold (added d.tech n) kept (flat_map (walk_shapes_of d owner) (drop i ws)) ≡ whole → mid ≡ fold (added d.tech n) kept (walk_shapes_of d owner w) → fold (added d.tech n) mid (flat_map (walk_shapes_of d owner) (drop (i + 1) ws)) ≡ whole
+fold_walks d n owner kept mid ws i w whole h at e is =
     let split : drop i ws ≡ w ∷ drop (i + 1) ws = drop_more ws i w h ∙ ap (λ (x : Walk). x ∷ drop (i + 1) ws) at in
-    let next : fold (added n) rows (walk_shapes_of d owner w ++ flat_map (walk_shapes_of d owner) (drop (i + 1) ws)) ≡ whole = subst (λ (xs : List Walk). fold (added n) rows (flat_map (walk_shapes_of d owner) xs) ≡ whole) split e in
-    ap (λ (r : List (List Shape)). fold (added n) r (flat_map (walk_shapes_of d owner) (drop (i + 1) ws))) is ∙ sym (fold-append (added n) rows (walk_shapes_of d owner w) (flat_map (walk_shapes_of d owner) (drop (i + 1) ws))) ∙ next
+    let next : fold (added d.tech n) kept (walk_shapes_of d owner w ++ flat_map (walk_shapes_of d owner) (drop (i + 1) ws)) ≡ whole = subst (λ (xs : List Walk). fold (added d.tech n) kept (flat_map (walk_shapes_of d owner) xs) ≡ whole) split e in
+    ap (λ (r : List Shape). fold (added d.tech n) r (flat_map (walk_shapes_of d owner) (drop (i + 1) ws))) is ∙ sym (fold-append (added d.tech n) kept (walk_shapes_of d owner w) (flat_map (walk_shapes_of d owner) (drop (i + 1) ws))) ∙ next
 
-pub fold_nets : (d : Design) (n : ℕ) (rows mid : List (List Shape)) (nets : List NetState) (i : ℕ) (net : NetState) (whole : List (List Shape)) → i < length nets → get_or nets i net ≡ net → fold (added n) rows (standing_from d every_net i (drop i nets)) ≡ whole → mid ≡ fold (added n) rows (flat_map (walk_shapes_of d i) net.walks) → fold (added n) mid (standing_from d every_net (i + 1) (drop (i + 1) nets)) ≡ whole
-fold_nets d n rows mid nets i net whole h at e is =
+pub fold_nets : (d : Design) (n : ℕ) (kept mid : List Shape) (nets : List NetState) (i : ℕ) (net : NetState) (whole : List Shape) → i < length nets → get_or nets i net ≡ net → fold (added d.tech n) kept (standing_from d every_net i (drop i nets)) ≡ whole → mid ≡ fold (added d.tech n) kept (flat_map (walk_shapes_of d i) net.walks) → fold (added d.tech n) mid (standing_from d every_net (i + 1) (drop (i + 1) nets)) ≡ whole
+fold_nets d n kept mid nets i net whole h at e is =
     let split : drop i nets ≡ net ∷ drop (i + 1) nets = drop_more nets i net h ∙ ap (λ (x : NetState). x ∷ drop (i + 1) nets) at in
-    let next : fold (added n) rows (net_shapes d i net ++ standing_from d every_net (i + 1) (drop (i + 1) nets)) ≡ whole = subst (λ (xs : List NetState). fold (added n) rows (standing_from d every_net i xs) ≡ whole) split e in
-    ap (λ (r : List (List Shape)). fold (added n) r (standing_from d every_net (i + 1) (drop (i + 1) nets))) is ∙ sym (fold-append (added n) rows (net_shapes d i net) (standing_from d every_net (i + 1) (drop (i + 1) nets))) ∙ next
-
-pub row_past : (rows : List (List Shape)) (k : ℕ) → length rows ≤ k → row_at rows k ≡ []
-row_past rows k h = ap (λ (o : Option (List Shape)). unwrap_or o []) (slice_get_past rows k h)
-
-row_set : (rows : List (List Shape)) (k : ℕ) (row : List Shape) → k < length rows → row_at (slice_set rows k row) k ≡ row
-row_set rows k row h = unwrap_or-slice_get (slice_set rows k row) k [] ∙ get_or-set_same rows k row [] h
-
-row_other : (rows : List (List Shape)) (k j : ℕ) (row : List Shape) → (j ≡ k → ⊥) → row_at (slice_set rows k row) j ≡ row_at rows j
-row_other rows k j row h = unwrap_or-slice_get (slice_set rows k row) j [] ∙ get_or-set_other rows k j row [] h ∙ sym (unwrap_or-slice_get rows j [])
+    let next : fold (added d.tech n) kept (net_shapes d i net ++ standing_from d every_net (i + 1) (drop (i + 1) nets)) ≡ whole = subst (λ (xs : List NetState). fold (added d.tech n) kept (standing_from d every_net i xs) ≡ whole) split e in
+    ap (λ (r : List Shape). fold (added d.tech n) r (standing_from d every_net (i + 1) (drop (i + 1) nets))) is ∙ sym (fold-append (added d.tech n) kept (net_shapes d i net) (standing_from d every_net (i + 1) (drop (i + 1) nets))) ∙ next
 
 and_none : (a b : Bool) → (a && false && b) ≡ false
 and_none true b = refl
@@ -90,60 +78,59 @@ apart_fine tech a b h =
     differ : (m n : ℕ) → (m ≡ n → ⊥) → (m == n) ≡ false
     differ m n h = grind (arith, nat_tests)
 
+-- nor with a shape that may not forbid one of the net
+others_fine : (tech : Tech) (n : ℕ) (a b : Shape) → a.owner ≡ OfNet n → a.layer.0 < length tech.layers → may_forbid tech n b ≡ false → conflict_of tech a b ≡ false
+others_fine tech n a b own within e = by_owner (same_owner b.owner (OfNet n)) refl
+  where
+    outside : (k m : ℕ) → k < m → nat_lt k m ≡ false → ⊥
+    outside k m h t = grind (arith, nat_tests)
+
+    by_owner : (s : Bool) → same_owner b.owner (OfNet n) ≡ s → conflict_of tech a b ≡ false
+    by_owner true same = own_fine tech n a b own same
+    by_owner false other =
+        let past : nat_lt b.layer.0 (length tech.layers) ≡ false = subst (λ (s : Bool). (not s && nat_lt b.layer.0 (length tech.layers)) ≡ false) other e in
+        apart_fine tech a b (λ same. outside b.layer.0 (length tech.layers) (subst (λ (k : ℕ). k < length tech.layers) same within) past)
+
 -- one shape more
-any_added : (tech : Tech) (n : ℕ) (rows : List (List Shape)) (a b : Shape) → a.owner ≡ OfNet n → a.layer.0 < length rows → list_any (conflict_of tech a) (row_at (added n rows b) a.layer.0) ≡ (list_any (conflict_of tech a) (row_at rows a.layer.0) || conflict_of tech a b)
-any_added tech n rows a b own within = by_owner (same_owner b.owner (OfNet n)) refl
+any_added : (tech : Tech) (n : ℕ) (kept : List Shape) (a b : Shape) → a.owner ≡ OfNet n → a.layer.0 < length tech.layers → list_any (conflict_of tech a) (added tech n kept b) ≡ (list_any (conflict_of tech a) kept || conflict_of tech a b)
+any_added tech n kept a b own within = by_test (may_forbid tech n b) refl
   where
-    by_owner : (s : Bool) → same_owner b.owner (OfNet n) ≡ s → list_any (conflict_of tech a) (row_at (cond s rows (slice_set rows b.layer.0 (row_at rows b.layer.0 ++ b ∷ []))) a.layer.0) ≡ (list_any (conflict_of tech a) (row_at rows a.layer.0) || conflict_of tech a b)
-    by_owner true e = sym (ap (λ (c : Bool). list_any (conflict_of tech a) (row_at rows a.layer.0) || c) (own_fine tech n a b own e) ∙ or_no _)
-    by_owner false e = ⊎_elim
-        (λ (same : a.layer.0 ≡ b.layer.0).
-        ap (λ (k : ℕ). list_any (conflict_of tech a) (row_at (slice_set rows b.layer.0 (row_at rows b.layer.0 ++ b ∷ [])) k)) same
-        ∙ ap (list_any (conflict_of tech a)) (row_set rows b.layer.0 (row_at rows b.layer.0 ++ b ∷ []) (subst (λ (k : ℕ). k < length rows) same within))
-        ∙ any_append (conflict_of tech a) (row_at rows b.layer.0) (b ∷ [])
-        ∙ ap (λ (k : ℕ). list_any (conflict_of tech a) (row_at rows k) || (conflict_of tech a b || false)) (sym same)
-        ∙ ap (λ (c : Bool). list_any (conflict_of tech a) (row_at rows a.layer.0) || c) (or_no (conflict_of tech a b)))
-        (λ (other : a.layer.0 ≡ b.layer.0 → ⊥).
-        ap (list_any (conflict_of tech a)) (row_other rows b.layer.0 a.layer.0 (row_at rows b.layer.0 ++ b ∷ []) other)
-        ∙ sym (ap (λ (c : Bool). list_any (conflict_of tech a) (row_at rows a.layer.0) || c) (apart_fine tech a b other) ∙ or_no _))
-        (cases_eq a.layer.0 b.layer.0)
+    by_test : (s : Bool) → may_forbid tech n b ≡ s → list_any (conflict_of tech a) (cond s (kept ++ b ∷ []) kept) ≡ (list_any (conflict_of tech a) kept || conflict_of tech a b)
+    by_test true e = any_append (conflict_of tech a) kept (b ∷ []) ∙ ap (λ (c : Bool). list_any (conflict_of tech a) kept || c) (or_no (conflict_of tech a b))
+    by_test false e = sym (ap (λ (c : Bool). list_any (conflict_of tech a) kept || c) (others_fine tech n a b own within e) ∙ or_no _)
 
-length-added : (n : ℕ) (rows : List (List Shape)) (b : Shape) → length (added n rows b) ≡ length rows
-length-added n rows b = by_owner (same_owner b.owner (OfNet n))
+any_all_added : (tech : Tech) (n : ℕ) (kept bs : List Shape) (a : Shape) → a.owner ≡ OfNet n → a.layer.0 < length tech.layers → list_any (conflict_of tech a) (fold (added tech n) kept bs) ≡ (list_any (conflict_of tech a) kept || list_any (conflict_of tech a) bs)
+any_all_added tech n kept [] a own within = sym (or_no _)
+any_all_added tech n kept (b ∷ bs) a own within =
+    any_all_added tech n (added tech n kept b) bs a own within
+    ∙ ap (λ (c : Bool). c || list_any (conflict_of tech a) bs) (any_added tech n kept a b own within)
+    ∙ or_assoc (list_any (conflict_of tech a) kept) (conflict_of tech a b) (list_any (conflict_of tech a) bs)
+
+-- the fixed and the standing shapes that may forbid one of the net
+pub obstacles_are : (tech : Tech) (n : ℕ) (kept fixed standing : List Shape) → kept ≡ fold (added tech n) (fold (added tech n) [] fixed) standing → AreObstacles tech n (fixed ++ standing) kept
+obstacles_are tech n kept fixed standing is a own within =
+    ap (list_any (conflict_of tech a)) (is ∙ sym (fold-append (added tech n) [] fixed standing)) ∙ any_all_added tech n [] (fixed ++ standing) a own within
+
+-- a kept shape is on a layer that there is
+pub added_layers : (tech : Tech) (n : ℕ) (kept bs : List Shape) → All (λ (b : Shape). b.layer.0 < length tech.layers) kept → All (λ (b : Shape). b.layer.0 < length tech.layers) (fold (added tech n) kept bs)
+added_layers tech n kept [] h = h
+added_layers tech n kept (b ∷ bs) h = added_layers tech n (added tech n kept b) bs (by_test (may_forbid tech n b) refl)
   where
-    by_owner : (s : Bool) → length (cond s rows (slice_set rows b.layer.0 (row_at rows b.layer.0 ++ b ∷ []))) ≡ length rows
-    by_owner true = refl
-    by_owner false = length-set rows b.layer.0 _
+    inside : (k m : ℕ) → (s : Bool) → (s && nat_lt k m) ≡ true → k < m
+    inside k m true e = grind (arith, nat_tests)
+    inside k m false e = cc
 
-pub length-all_added : (n : ℕ) (rows : List (List Shape)) (bs : List Shape) → length (fold (added n) rows bs) ≡ length rows
-length-all_added n rows [] = refl
-length-all_added n rows (b ∷ bs) = length-all_added n (added n rows b) bs ∙ length-added n rows b
-
-any_all_added : (tech : Tech) (n : ℕ) (rows : List (List Shape)) (bs : List Shape) (a : Shape) → a.owner ≡ OfNet n → a.layer.0 < length rows → list_any (conflict_of tech a) (row_at (fold (added n) rows bs) a.layer.0) ≡ (list_any (conflict_of tech a) (row_at rows a.layer.0) || list_any (conflict_of tech a) bs)
-any_all_added tech n rows [] a own within = sym (or_no _)
-any_all_added tech n rows (b ∷ bs) a own within =
-    any_all_added tech n (added n rows b) bs a own (subst (λ (k : ℕ). a.layer.0 < k) (sym (length-added n rows b)) within)
-    ∙ ap (λ (c : Bool). c || list_any (conflict_of tech a) bs) (any_added tech n rows a b own within)
-    ∙ or_assoc (list_any (conflict_of tech a) (row_at rows a.layer.0)) (conflict_of tech a b) (list_any (conflict_of tech a) bs)
-
-empty_row : (rows : List (List Shape)) (k : ℕ) → All (λ row. row ≡ []) rows → k < length rows → row_at rows k ≡ []
-empty_row rows k none within = unwrap_or-slice_get rows k [] ∙ none k [] within
-
--- the fixed and the standing shapes, added to empty rows
-pub obstacles_are : (d : Design) (n : ℕ) (start rows : List (List Shape)) (fixed standing : List Shape) → length start ≡ length d.tech.layers → All (λ row. row ≡ []) start → rows ≡ fold (added n) (fold (added n) start fixed) standing → AreObstacles d n (fixed ++ standing) rows
-obstacles_are d n start rows fixed standing long none is a own within =
-    let inside : a.layer.0 < length start = subst (λ (k : ℕ). a.layer.0 < k) (sym long) within in
-    ap (λ (r : List (List Shape)). list_any (conflict_of d.tech a) (row_at r a.layer.0)) (is ∙ sym (fold-append (added n) start fixed standing))
-    ∙ any_all_added d.tech n start (fixed ++ standing) a own inside
-    ∙ ap (λ (row : List Shape). list_any (conflict_of d.tech a) row || list_any (conflict_of d.tech a) (fixed ++ standing)) (empty_row start a.layer.0 none inside)
+    by_test : (s : Bool) → may_forbid tech n b ≡ s → All (λ (x : Shape). x.layer.0 < length tech.layers) (cond s (kept ++ b ∷ []) kept)
+    by_test true e = All-append (λ (x : Shape). x.layer.0 < length tech.layers) kept (b ∷ []) h (All-cons (λ (x : Shape). x.layer.0 < length tech.layers) b [] (inside b.layer.0 (length tech.layers) (not (same_owner b.owner (OfNet n))) e) (All-nil (λ (x : Shape). x.layer.0 < length tech.layers)))
+    by_test false e = h
 
 -- so the shapes of a net, on layers that there are, meet an obstacle exactly where they conflict with a forbidding shape
-pub meets_as_conflicts : (d : Design) (n : ℕ) (forbidding : List Shape) (rows : List (List Shape)) (ms : List Metal) → AreObstacles d n forbidding rows → All (λ (m : Metal). m.0.0 < length d.tech.layers) ms → meets_any d.tech rows (shapes_of n ms) ≡ some_conflict d.tech (shapes_of n ms) forbidding
-meets_as_conflicts d n forbidding rows [] are within = refl
-meets_as_conflicts d n forbidding rows (m ∷ ms) are within =
+pub meets_as_conflicts : (tech : Tech) (n : ℕ) (forbidding kept : List Shape) (ms : List Metal) → AreObstacles tech n forbidding kept → All (λ (m : Metal). m.0.0 < length tech.layers) ms → some_conflict tech (shapes_of n ms) kept ≡ some_conflict tech (shapes_of n ms) forbidding
+meets_as_conflicts tech n forbidding kept [] are within = refl
+meets_as_conflicts tech n forbidding kept (m ∷ ms) are within =
     let a : Shape = record { layer = m.0; rect = m.1; owner = OfNet n; fixed = false } in
-    ap (λ (b : Bool). b || meets_any d.tech rows (shapes_of n ms)) (are a refl (All-head (λ (m : Metal). m.0.0 < length d.tech.layers) m ms within))
-    ∙ ap (λ (b : Bool). list_any (conflict_of d.tech a) forbidding || b) (meets_as_conflicts d n forbidding rows ms are (All-tail (λ (m : Metal). m.0.0 < length d.tech.layers) m ms within))
+    ap (λ (b : Bool). b || some_conflict tech (shapes_of n ms) kept) (are a refl (All-head (λ (m : Metal). m.0.0 < length tech.layers) m ms within))
+    ∙ ap (λ (b : Bool). list_any (conflict_of tech a) forbidding || b) (meets_as_conflicts tech n forbidding kept ms are (All-tail (λ (m : Metal). m.0.0 < length tech.layers) m ms within))
 
 pub drop_past : {X : Type 0} (i : ℕ) (xs : List X) → length xs ≤ i → drop i xs ≡ []
 drop_past zero [] h = refl
@@ -151,9 +138,9 @@ drop_past zero (x ∷ xs) h = absurd (omega arith)
 drop_past (suc i) [] h = refl
 drop_past (suc i) (x ∷ xs) h = drop_past i xs (omega arith)
 
--- a shape of another net on a layer that there is
-pub added-set : (n : ℕ) (rows : List (List Shape)) (b : Shape) → same_owner b.owner (OfNet n) ≡ false → added n rows b ≡ slice_set rows b.layer.0 (row_at rows b.layer.0 ++ b ∷ [])
-added-set n rows b e = ap (λ (s : Bool). cond s rows (slice_set rows b.layer.0 (row_at rows b.layer.0 ++ b ∷ []))) e
+-- a shape of another net
+pub added-other : (tech : Tech) (n : ℕ) (kept : List Shape) (b : Shape) → same_owner b.owner (OfNet n) ≡ false → added tech n kept b ≡ cond (nat_lt b.layer.0 (length tech.layers)) (kept ++ b ∷ []) kept
+added-other tech n kept b e = ap (λ (s : Bool). cond (not s && nat_lt b.layer.0 (length tech.layers)) (kept ++ b ∷ []) kept) e
 
 pub clear_from_not : (b : Bool) → not b ≡ true → b ≡ false
 clear_from_not true h = cc

@@ -1,4 +1,5 @@
 pub mod Ground
+pub mod Cells
 pub mod Obstacles
 pub mod Vertices
 pub mod Steps

@@ -49,8 +49,8 @@ fn search(
 /// at an entry of a joined pin or on a standing wire of the net, runs inside the net's guide, and
 /// finishes at an entry of a pin that isn't joined; it is legal where none of its shapes conflicts
 /// with a fixed or a standing one. It may come back to a vertex. Where several walks cost least,
-/// any of them is answered. For each edge in the guide it looks at each obstacle on the layers of the
-/// edge's shapes; the search over the edges takes time in O(E log E). The only error is want of memory.
+/// any of them is answered. For each edge in the guide it looks at the obstacles near the
+/// edge's shapes alone; the search over the edges takes time in O(E log E). The only error is want of memory.
 pub fn plain_search(
     alloc: Global,
     design: &Design,

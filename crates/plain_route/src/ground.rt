@@ -1,13 +1,13 @@
 //! What a search of a net looks at.
-use rt_base::{Seq, Shape, Vertex};
+use crate::cells::Obstacles;
+use rt_base::{Seq, Vertex};
 
-/// The net, the vertices in its guide, ascending, and of each layer the shapes that its wires may
-/// not come near.
+/// The net, the vertices in its guide, ascending, and the shapes that its wires may not come near.
 #[derive(Drop)]
 pub struct Ground {
     pub net: u32,
     pub vertices: Seq<Vertex>,
-    pub obstacles: Seq<Seq<Shape>>,
+    pub obstacles: Obstacles,
 }
 
 /// A place on a track: its level, the line of the track, and how far along it stands.

@@ -2,6 +2,8 @@
 #![tactic(auto)]
 
 mod answer;
+mod axis;
+mod cells;
 mod entries;
 mod ground;
 mod guide;

@@ -4,9 +4,9 @@ ghost use Rattle.track_graph.specs.Designs.{IsDesign};
 ghost use Rattle.plain_route.specs.Ground.{IsGround, IsLegalEdge};
 ghost use Rattle.plain_route.specs.Rows.{tag_of, kind_of, AddsLink, AreLinks, IsRow, AreRows};
 
+use crate::cells::meets_any;
 use crate::ground::Ground;
 use crate::guide::{guide_of, is_edge_in_guide};
-use crate::obstacles::meets_any;
 use crate::steps::steps;
 use crate::vertices::number_of;
 use least_walk::Link;
@@ -54,7 +54,7 @@ fn is_legal_edge(
         return Ok(false);
     }
     let shapes = edge_shapes(alloc, design, ground.net, v, e)?;
-    let met = meets_any(&design.tech, ground.obstacles.as_slice(), &shapes);
+    let met = meets_any(&design.tech, &ground.obstacles, &shapes);
     Ok(!met)
 }
 

@@ -5,9 +5,9 @@ ghost use Rattle.track_graph.specs.NetWalks.{IsNetEntry};
 ghost use Rattle.plain_route.specs.Ground.{IsGround, IsOpen};
 ghost use Rattle.plain_route.specs.Stops.{AreNetEntries, AddsStop, AreStops};
 
+use crate::cells::meets_any;
 use crate::ground::Ground;
 use crate::guide::{guide_of, is_in_guide};
-use crate::obstacles::meets_any;
 use crate::vertices::number_of;
 use least_walk::Stop;
 use rt_base::{Entry, Memory, Seq};
@@ -26,7 +26,7 @@ fn is_open(alloc: Global, design: &Design, ground: &Ground, entry: &Entry) -> Re
         return Ok(false);
     }
     let shapes = entry_shapes(alloc, design, ground.net, entry)?;
-    let met = meets_any(&design.tech, ground.obstacles.as_slice(), &shapes);
+    let met = meets_any(&design.tech, &ground.obstacles, &shapes);
     Ok(!met)
 }
 

@@ -10,7 +10,7 @@ use Rattle.plain_route.proofs.LegalLemmas.{least_from_route, none_from_routes, n
 use Rattle.plain_route.proofs.answer.plain_search.Goals as goal
 
 pub search-requires-clause-ground : goal.search-requires-clause-ground
-search-requires-clause-ground c = record { vertices = c.in_ok-guide_vertices.ensures; layers = c.in_ok-obstacles.ensures.layers }
+search-requires-clause-ground c = record { vertices = c.in_ok-guide_vertices.ensures; sifted = c.in_ok-obstacles.ensures.sifted }
 
 pub search-requires-clause-starts : goal.search-requires-clause-starts
 search-requires-clause-starts c = subst (AreNetEntries c.args.design.now c.args.net) (sym c.as_slice.ensures) c.in_ok-starts.ensures.fit

@@ -26,10 +26,10 @@ loop-owner-preserved c =
     let nets : c.as_slice-standing-items.result.now ≡ c.args.state.now.nets = c.as_slice-standing-items.ensures in
     let within : i < length c.args.state.now.nets = subst (λ (ns : List NetState). i < length ns) nets c.loop-owner-test.true in
     let at : get_or c.args.state.now.nets i c.standing-item.result ≡ c.standing-item.result = subst (λ (ns : List NetState). get_or ns i c.standing-item.result ≡ c.standing-item.result) nets (sym c.standing-item.is) in
-    let is : c.add_walks.new.rows ≡ fold (added n) c.loop-owner.rows (flat_map (walk_shapes_of d i) c.standing-item.result.walks) = c.in_ok-add_walks.ensures ∙ ap (λ (ws : List Walk). fold (added n) c.loop-owner.rows (flat_map (walk_shapes_of d i) ws)) c.as_slice.ensures in
-    fold_nets d n c.loop-owner.rows c.add_walks.new.rows c.args.state.now.nets i c.standing-item.result (fold (added n) c.args.rows.now (standing_from d every_net 0 c.args.state.now.nets)) within at c.loop-owner.invariant is
+    let is : c.add_walks.new.kept ≡ fold (added c.args.design.now.tech n) c.loop-owner.kept (flat_map (walk_shapes_of d i) c.standing-item.result.walks) = c.in_ok-add_walks.ensures ∙ ap (λ (ws : List Walk). fold (added c.args.design.now.tech n) c.loop-owner.kept (flat_map (walk_shapes_of d i) ws)) c.as_slice.ensures in
+    fold_nets d n c.loop-owner.kept c.add_walks.new.kept c.args.state.now.nets i c.standing-item.result (fold (added c.args.design.now.tech n) c.args.kept.now (standing_from d every_net 0 c.args.state.now.nets)) within at c.loop-owner.invariant is
 
 pub returns : goal.returns
 returns c =
     let past = subst (λ (ns : List NetState). length ns ≤ c.loop-owner.owner) c.as_slice-standing-items.ensures c.loop-owner-test.false in
-    subst (λ (ns : List NetState). fold (added c.args.net) c.loop-owner.rows (standing_from c.args.design.now every_net c.loop-owner.owner ns) ≡ fold (added c.args.net) c.args.rows.now (standing_from c.args.design.now every_net 0 c.args.state.now.nets)) (drop_past c.loop-owner.owner c.args.state.now.nets past) c.loop-owner.invariant
+    subst (λ (ns : List NetState). fold (added c.args.design.now.tech c.args.net) c.loop-owner.kept (standing_from c.args.design.now every_net c.loop-owner.owner ns) ≡ fold (added c.args.design.now.tech c.args.net) c.args.kept.now (standing_from c.args.design.now every_net 0 c.args.state.now.nets)) (drop_past c.loop-owner.owner c.args.state.now.nets past) c.loop-owner.invariant

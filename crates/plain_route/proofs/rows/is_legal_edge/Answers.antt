@@ -4,8 +4,7 @@ use Rattle.track_graph.specs.Edges.{EdgeInGuide, edge_metal}
 use Rattle.track_graph.specs.Guide.{Guide}
 use Rattle.track_graph.specs.Levels.{track_system_of}
 use Rattle.track_graph.specs.Metal.{shapes_of}
-use Rattle.track_graph.specs.Searches.{guide_of}
-use Rattle.plain_route.specs.Ground.{meets_any}
+use Rattle.track_graph.specs.Searches.{guide_of, some_conflict}
 use Rattle.rt_base.specs.declared.tech.Shape.{Shape}
 use Rattle.plain_route.proofs.ObstacleLemmas.{clear_from_not, not_from_clear}
 use Rattle.plain_route.proofs.RowLemmas.{straight}
@@ -25,6 +24,6 @@ returns c =
     let inside : EdgeInGuide (guide_of c.args.design.now c.args.ground.now.net) c.args.v c.args.e.now = subst (λ (g : Guide). EdgeInGuide g c.args.v c.args.e.now) c.guide_of.ensures (c.if-not-is_edge_in_guide.ensures.0 refl) in
     let d = c.args.design.now in
     let g = c.args.ground.now in
-    let met : c.meets_any-met.result ≡ meets_any d.tech g.obstacles (shapes_of g.net (edge_metal d c.args.v c.args.e.now)) =
-    c.meets_any-met.ensures ∙ ap (λ (rows : List (List Shape)). meets_any d.tech rows c.deref.result.now) c.as_slice.ensures ∙ ap (meets_any d.tech g.obstacles) (c.deref.ensures.value ∙ c.in_ok-shapes.ensures) in
+    let met : c.meets_any-met.result ≡ some_conflict d.tech (shapes_of g.net (edge_metal d c.args.v c.args.e.now)) g.obstacles.kept =
+    c.meets_any-met.ensures ∙ ap (λ (shapes : List Shape). some_conflict d.tech shapes g.obstacles.kept) (c.deref.ensures.value ∙ c.in_ok-shapes.ensures) in
     (λ t. record { edge = c.if-not-is_edge.ensures.0 refl; inside = inside; clear = sym met ∙ clear_from_not c.meets_any-met.result t }, λ h. not_from_clear c.meets_any-met.result (met ∙ h.clear))

@@ -4,8 +4,7 @@ use Rattle.rt_base.specs.declared.tech.Shape.{Shape}
 use Rattle.track_graph.specs.Entries.{entry_part}
 use Rattle.track_graph.specs.Guide.{Guide, InGuide}
 use Rattle.track_graph.specs.Metal.{shapes_of}
-use Rattle.track_graph.specs.Searches.{guide_of}
-use Rattle.plain_route.specs.Ground.{meets_any}
+use Rattle.track_graph.specs.Searches.{guide_of, some_conflict}
 use Rattle.plain_route.proofs.ObstacleLemmas.{clear_from_not, not_from_clear}
 use Rattle.plain_route.proofs.stops.is_open.Goals as goal
 
@@ -18,6 +17,6 @@ returns c =
     let g = c.args.ground.now in
     let e = c.args.entry.now in
     let inside : InGuide (guide_of d g.net) e.vertex.level e.vertex.point = subst (λ (x : Guide). InGuide x e.vertex.level e.vertex.point) c.guide_of.ensures (c.if-not-is_in_guide.ensures.0 refl) in
-    let met : c.meets_any-met.result ≡ meets_any d.tech g.obstacles (shapes_of g.net (entry_part d g.net e).1) =
-    c.meets_any-met.ensures ∙ ap (λ (rows : List (List Shape)). meets_any d.tech rows c.deref.result.now) c.as_slice.ensures ∙ ap (meets_any d.tech g.obstacles) (c.deref.ensures.value ∙ c.in_ok-shapes.ensures) in
+    let met : c.meets_any-met.result ≡ some_conflict d.tech (shapes_of g.net (entry_part d g.net e).1) g.obstacles.kept =
+    c.meets_any-met.ensures ∙ ap (λ (shapes : List Shape). some_conflict d.tech shapes g.obstacles.kept) (c.deref.ensures.value ∙ c.in_ok-shapes.ensures) in
     (λ t. record { inside = inside; clear = sym met ∙ clear_from_not c.meets_any-met.result t }, λ h. not_from_clear c.meets_any-met.result (met ∙ h.clear))
