@@ -1,18 +1,20 @@
 //! DEF texts.
 ghost use Rattle.std.specs.Prelude.{◌≡◌, ◌<◌, ◌≤◌, ◌+◌, ◌^◌, length, IfOk, OnOk};
 ghost use Rattle.rt_base.specs.Scan.{IsCutInto};
+ghost use Rattle.rt_forms.specs.Bytes.{ReadsBytes, unread as unread_of};
 ghost use Rattle.rt_forms.specs.Clauses.{Reads, Looks, ReadsText};
 ghost use Rattle.rt_forms.specs.Form.{turn, loop};
 ghost use Rattle.rt_forms.specs.Reading.{left_of};
+ghost use Rattle.def_text.specs.declared.error.DefError.TheVariants.{Scan};
 ghost use Rattle.def_text.specs.Faults.{def_faults};
 ghost use Rattle.def_text.specs.Defs.{IsDef, AreRanges, AreCloses};
 ghost use Rattle.def_text.specs.Texts.{IsParsed, statement as statement_form, until_units as until_units_form, nothing_read, a_def as a_def_form, def_form, units_form};
-ghost use Rattle.def_text.specs.Clauses.{unread as unread_of, ReadsBeginning, ReadsBytes};
+ghost use Rattle.def_text.specs.Clauses.{ReadsBeginning};
 
 use crate::def::Def;
 use crate::error::DefError;
 use crate::parts::Words;
-use crate::statements::{Parsed, built, finished, statement};
+use crate::statements::{Parsed, finished, statement};
 use rt_base::{Name, ScanError, Seq, Token, tokens};
 use std::alloc::Global;
 
@@ -33,7 +35,6 @@ pub fn nothing_read(alloc: Global, total: u32) -> Parsed
         special: None,
         nets: None,
         skipped: 0,
-        end: 0,
     }
 }
 
@@ -60,10 +61,7 @@ fn a_def(alloc: Global, words: &mut Words, total: u32) -> Result<Def, DefError>
 {
     let mut parsed = nothing_read(alloc, total);
     statements(alloc, words, &mut parsed)?;
-    let end = parsed.end;
-    let def = finished(alloc, parsed)?;
-    built(end, &def)?;
-    Ok(def)
+    finished(alloc, parsed)
 }
 
 /// What a text says, with nothing behind `END DESIGN`.
@@ -146,7 +144,7 @@ pub fn read_def_tokens(alloc: Global, text: &[u8], tokens: &[Token]) -> Result<D
 
 /// Why a text has no tokens, as an error of DEF.
 fn unread(error: ScanError) -> DefError
-    ensures { result ≡ unread_of error }
+    ensures { result ≡ unread_of def_faults Scan error }
 {
     match error {
         ScanError::Memory => DefError::Memory,
@@ -158,7 +156,7 @@ fn unread(error: ScanError) -> DefError
 /// The database units per micron of a text, as `read_units_tokens` reads them.
 pub fn read_units(alloc: Global, text: &[u8]) -> Result<u32, DefError>
     requires { length text.now < 2 ^ 32 }
-    ensures { ReadsBytes (λ tokens r. ReadsBeginning units_form text.now tokens r) text.now result }
+    ensures { ReadsBytes def_faults Scan (λ tokens r. ReadsBeginning units_form text.now tokens r) text.now result }
 {
     match tokens(alloc, text) {
         Ok(tokens) => read_units_tokens(alloc, text, tokens.as_slice()),
@@ -169,7 +167,7 @@ pub fn read_units(alloc: Global, text: &[u8]) -> Result<u32, DefError>
 /// What a text says, as `read_def_tokens` reads it.
 pub fn read_def(alloc: Global, text: &[u8]) -> Result<Def, DefError>
     requires { length text.now < 2 ^ 32 }
-    ensures reads { ReadsBytes (λ tokens r. ReadsText def_faults (λ x. x) def_form text.now tokens r) text.now result }
+    ensures reads { ReadsBytes def_faults Scan (λ tokens r. ReadsText def_faults (λ x. x) def_form text.now tokens r) text.now result }
     ensures fits { IfOk result (λ d. IsDef d) }
     ensures closes { IfOk result (λ d. AreCloses (length text.now) d.nets) }
 {
