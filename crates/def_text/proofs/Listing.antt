@@ -2,11 +2,11 @@
 use Rattle.std.proofs.Common.{◌≡◌, ◌≢◌, ◌++◌, ◌<◌, ℕ, zero, suc, false, List, [], ◌∷◌, length, get_or, map, bytes_eq, All, ap, sym, ◌∙◌, arith, inl, inr, refl, ◌+◌, take, append_assoc, lit<}
 use Rattle.std.specs.List.{list_any}
 use Rattle.std.proofs.lemmas.Bool.{cases_Bool, both_ways}
-use Rattle.std.proofs.lemmas.List.{map-append, length-append, take_more}
+use Rattle.std.proofs.lemmas.List.{map-append, take_more}
 use Rattle.std.proofs.lemmas.List.Elements.{All-append, All-cons}
 use Rattle.std.proofs.lemmas.List.Quantifiers.{all_pairs_push}
 use Rattle.rt_words.proofs.Words.{differ}
-use Rattle.def_text.specs.Defs.{IsName, IsRange, IsConnection}
+use Rattle.def_text.specs.Defs.{IsName, IsRange}
 use Rattle.def_text.specs.Wiring.{IsNetOf}
 use Rattle.def_text.specs.declared.sections.Listed.{Listed}
 use Rattle.def_text.specs.Sections.{AreListed}

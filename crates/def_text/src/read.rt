@@ -19,7 +19,7 @@ use rt_base::{Name, ScanError, Seq, Token, tokens};
 use std::alloc::Global;
 
 /// Nothing was read yet of a text of so many words.
-pub fn nothing_read(alloc: Global, total: u32) -> Parsed
+fn nothing_read(alloc: Global, total: u32) -> Parsed
     ensures value { result ≡ nothing_read total }
     ensures sound { IsParsed result }
 {
@@ -39,7 +39,7 @@ pub fn nothing_read(alloc: Global, total: u32) -> Parsed
 }
 
 /// The statements of a text up to its end.
-pub fn statements(alloc: Global, words: &mut Words, parsed: &mut Parsed) -> Result<(), DefError>
+fn statements(alloc: Global, words: &mut Words, parsed: &mut Parsed) -> Result<(), DefError>
     requires sound { IsParsed parsed.old }
     requires few { parsed.old.skipped + length words.old ≤ 2 ^ 32 }
     ensures reads { Reads def_faults (λ _. parsed.new) result words.old words.new (loop statement_form parsed.old) }
@@ -129,7 +129,9 @@ pub fn read_units_tokens(alloc: Global, text: &[u8], tokens: &[Token]) -> Result
     the_units(alloc, &mut words, tokens.len() as u32)
 }
 
-/// What a text with these tokens says.
+/// What a text with these tokens says (DEF 5.8): statements and sections in any order, ended by
+/// `END DESIGN`. Each refusal is that of the first word that isn't admitted; which fault it is says
+/// [`DefError`].
 pub fn read_def_tokens(alloc: Global, text: &[u8], tokens: &[Token]) -> Result<Def, DefError>
     requires text { length text.now < 2 ^ 32 }
     requires tokens { IsCutInto text.now tokens.now }
@@ -153,7 +155,7 @@ fn unread(error: ScanError) -> DefError
     }
 }
 
-/// The database units per micron of a text, as `read_units_tokens` reads them.
+/// Cuts a text into tokens and reads its database units per micron, as `read_units_tokens` does.
 pub fn read_units(alloc: Global, text: &[u8]) -> Result<u32, DefError>
     requires { length text.now < 2 ^ 32 }
     ensures { ReadsBytes def_faults Scan (λ tokens r. ReadsBeginning units_form text.now tokens r) text.now result }
@@ -164,7 +166,8 @@ pub fn read_units(alloc: Global, text: &[u8]) -> Result<u32, DefError>
     }
 }
 
-/// What a text says, as `read_def_tokens` reads it.
+/// Cuts a text into tokens and reads it, as `read_def_tokens` does. `Scan` is a fault of the bytes; it
+/// comes before any other.
 pub fn read_def(alloc: Global, text: &[u8]) -> Result<Def, DefError>
     requires { length text.now < 2 ^ 32 }
     ensures reads { ReadsBytes def_faults Scan (λ tokens r. ReadsText def_faults (λ x. x) def_form text.now tokens r) text.now result }
