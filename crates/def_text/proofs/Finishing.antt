@@ -1,5 +1,5 @@
 -- What is read of a whole text is in range.
-use Rattle.std.proofs.Common.{ℕ, ◌≤◌, ◌^◌, arith}
+use Rattle.std.proofs.Common.{ℕ, ◌≤◌, ◌^◌}
 use Rattle.rt_base.specs.Sides.{Sides}
 use Rattle.rt_base.specs.Ranges.{AreSidesWithin}
 use Rattle.def_text.specs.declared.def.Def.{Def}

@@ -1,13 +1,12 @@
 -- One more item of a section.
-use Rattle.def_text.specs.Nets.{AreFew}
 use Rattle.std.proofs.Common.{◌≡◌, ◌≢◌, ◌++◌, ◌<◌, ℕ, zero, suc, false, List, [], ◌∷◌, length, get_or, map, bytes_eq, All, ap, sym, ◌∙◌, arith, inl, inr, refl, ◌+◌, take, append_assoc, lit<}
 use Rattle.std.specs.List.{list_any}
 use Rattle.std.proofs.lemmas.Bool.{cases_Bool, both_ways}
-use Rattle.std.proofs.lemmas.List.{map-append, length-append, take_more}
+use Rattle.std.proofs.lemmas.List.{map-append, take_more}
 use Rattle.std.proofs.lemmas.List.Elements.{All-append, All-cons}
 use Rattle.std.proofs.lemmas.List.Quantifiers.{all_pairs_push}
 use Rattle.rt_words.proofs.Words.{differ}
-use Rattle.def_text.specs.Defs.{IsName, IsRange, IsConnection}
+use Rattle.def_text.specs.Defs.{IsName, IsRange}
 use Rattle.def_text.specs.Wiring.{IsNetOf}
 use Rattle.def_text.specs.declared.sections.Listed.{Listed}
 use Rattle.def_text.specs.Sections.{AreListed}
@@ -37,9 +36,6 @@ listed_more P name l w x k h fresh one e =
       apart = all_pairs_push (λ a b. name a ≢ name b) l.items x h.apart (λ i d lt q. apart i d lt (sym (q ∙ e)));
       items = All-one P l.items x h.items one;
     }
-
-pub few_more : (pins : List (List ℕ × List ℕ)) (pin : List ℕ × List ℕ) (n : ℕ) → AreFew pins → n ≡ length pins → n < 2 → IsConnection pin → AreFew (pins ++ pin ∷ [])
-few_more pins pin n few e lt one = record { all = All-one IsConnection pins pin few.all one; few = omega (arith, length-append pins (pin ∷ [])) }
 
 -- the value of one more item was added
 pub mapped_more : {A B : Type 0} (f : A → B) (before rects new : List B) (metal : List A) (i : ℕ) (m : A) (x : B) → new ≡ rects ++ x ∷ [] → rects ≡ before ++ map f (take i metal) → x ≡ f m → m ≡ get_or metal i m → i < length metal

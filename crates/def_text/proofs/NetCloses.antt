@@ -19,7 +19,7 @@ use Rattle.def_text.specs.Defs.{AreCloses}
 use Rattle.def_text.specs.Sections.{new_name, said_count, section_end, more_items}
 use Rattle.def_text.specs.Parts.{a_count, once, here}
 use Rattle.def_text.specs.Nets.{joined_by_must, connections, net_option, more_net, net_item}
-use Rattle.def_text.specs.Texts.{nothing_read, or_none, units_statement, nets_section, statement, finished_of, finished, built, a_def, def_form}
+use Rattle.def_text.specs.Texts.{nothing_read, or_none, units_statement, nets_section, statement, finished_of, finished, a_def, def_form}
 use Rattle.def_text.proofs.Listing.{All-one}
 use Rattle.def_text.proofs.Staying.{Stays, step, statement_stays}
 use Rattle.def_text.proofs.Closes.{AreFrom, Ascend, cut_ascends, from_rest, ascend_rest, Leads, Lasts, ByTurn, leads_bind, leads_any, leads_check, leads_done, leads_not, leads_choose, leads_loop}
@@ -171,9 +171,7 @@ unfolding a_def
 a_def_leads size =
     leads_bind (Ascend size) left (λ n. Ascend size) _ _ (leads_any _ _ (record { rest = λ front rest p. ascend_rest size front rest p })) (λ total.
     leads_bind (Ascend size) (loop statement (nothing_read total)) (Read size) _ _ (pre _ _ _ _ (begins_read size total) (leads_loop (Read size) (Read size) statement (statement_stays (Read size) (read_stays size)) (nothing_read total))) (λ s.
-    leads_bind (Read size s) (check (finished s)) (λ d ws. AreCloses size d.nets) _ _ (leads_check (Read size s) (finished s) (λ d ws. AreCloses size d.nets) (λ d ws e p. subst (AreCloses size) (sym (finished_nets s d e)) p.closes)) (λ d.
-    leads_bind (λ ws. AreCloses size d.nets) (check (built s.end d)) (λ x ws. AreCloses size d.nets) _ _ (leads_any _ _ (record { rest = λ front rest p. p })) (λ x.
-    leads_done (λ ws. AreCloses size d.nets) d (λ e ws. AreCloses size e.nets) (λ ws p. p)))))
+    leads_check (Read size s) (finished s) (λ d ws. AreCloses size d.nets) (λ d ws e p. subst (AreCloses size) (sym (finished_nets s d e)) p.closes)))
 
 def_leads : (size : ℕ) → Leads (Ascend size) def_form (λ d ws. AreCloses size d.nets)
 def_leads size =

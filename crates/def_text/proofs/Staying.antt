@@ -96,7 +96,7 @@ by_stays P stays Nets w s = stays.nets w s
 by_stays P stays Unused w s = step P stays.lasts s rest _ _ (λ a. kept P stays s s refl refl)
 by_stays P stays Skipped w s = step P stays.lasts s (up_to_pair (codes "END") w.word) _ _ (λ a. kept P stays s s refl refl)
 by_stays P stays Extension w s = step P stays.lasts s (up_to_word (codes "ENDEXT")) _ _ (λ a. kept P stays s s refl refl)
-by_stays P stays EndStatement w s = step P stays.lasts s (the_word (codes "DESIGN")) _ _ (λ a. leads_done (P s) (Done (record s { end = w.line })) (ByTurn P P) (λ ws p. stays.same s (record s { end = w.line }) ws refl refl p))
+by_stays P stays EndStatement w s = step P stays.lasts s (the_word (codes "DESIGN")) _ _ (λ a. leads_done (P s) (Done s) (ByTurn P P) (λ ws p. p))
 by_stays P stays Other w s = leads_not _ _ _
 
 pub statement_stays : (P : Parsed → List Lexeme → Type 0) → Stays P → (s : Parsed) → Leads (P s) (statement s) (ByTurn P P)

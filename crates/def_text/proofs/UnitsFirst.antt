@@ -16,7 +16,7 @@ use Rattle.def_text.specs.Clauses.{Begins}
 use Rattle.def_text.specs.Parts.{once}
 use Rattle.def_text.specs.Sections.{said_count, more_items}
 use Rattle.def_text.specs.Nets.{net_item}
-use Rattle.def_text.specs.Texts.{nothing_read, units_statement, nets_section, statement, finished_of, finished, built, a_def, def_form, stop_where, stop_at_units, until_units, units_form, units_or_missing}
+use Rattle.def_text.specs.Texts.{nothing_read, units_statement, nets_section, statement, finished_of, finished, a_def, def_form, stop_where, stop_at_units, until_units, units_form, units_or_missing}
 use Rattle.def_text.proofs.Closes.{Leads, Lasts, ByTurn, leads_bind, leads_check, leads_done}
 use Rattle.def_text.proofs.Staying.{step, statement_stays}
 use Rattle.def_text.proofs.Grammar.{lawful_def, lawful_units, lawful_statement}
@@ -179,10 +179,7 @@ unfolding a_def units_form
 units_read ws rest d h =
     let z = bind_ok (loop_of def_faults statement (nothing_read (left_of ws)) ws) _ (d, rest) h in
     let b = before (suc (length ws)) (nothing_read (left_of ws)) z.0.0 ws z.0.1 z.1 in
-    let y = bind_ok (with_rest z.0.1 (finished z.0.0)) _ (d, rest) z.2 in
-    let x = bind_ok (with_rest y.0.1 (built z.0.0.end y.0.0)) _ (d, rest) y.2 in
-    let same : y.0.0 ≡ d = ap (λ (p : Def × List Lexeme). p.0) (ok_is {E = DefError} (y.0.0, x.0.1) (d, rest) x.2) in
-    let u = b.same ∙ finished_units z.0.0 y.0.0 (ok_rest (finished z.0.0) z.0.1 y.0.1 y.0.0 y.1) ∙ ap (λ (v : Def). Some v.units) same in
+    let u = b.same ∙ finished_units z.0.0 d (ok_rest (finished z.0.0) z.0.1 rest d z.2) in
     (b.rest, rw (b.read, u) refl)
 
 -- a text that is read is one whose units are read

@@ -1,5 +1,5 @@
 -- COMPONENTS (DEF 5.8, Components).
-use Rattle.std.specs.Prelude.{List, [], ◌∷◌, ◌++◌, Bool, true, false, Err, Option, Some, None, IfSome, ◌^◌, bytes_eq, codes, ◌||◌}
+use Rattle.std.specs.Prelude.{[], ◌∷◌, ◌++◌, Bool, false, Err, Option, Some, None, IfSome, ◌^◌, bytes_eq, codes, ◌||◌}
 use Rattle.rt_base.specs.Ranges.{IsPointWithin}
 use Rattle.rt_base.specs.declared.geometry.Point.{Point}
 use Rattle.rt_base.specs.declared.orient.Orient.{Orient}

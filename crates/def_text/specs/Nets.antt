@@ -1,16 +1,15 @@
 -- NETS (DEF 5.8, Nets).
-use Rattle.std.specs.Prelude.{ℕ, ◌+◌, ◌≤◌, All, List, [], ◌∷◌, ◌++◌, length, Bool, true, false, Result, Ok, Err, bytes_eq, codes, nat_le, if◌then◌else◌}
+use Rattle.std.specs.Prelude.{ℕ, ◌+◌, List, [], ◌∷◌, ◌++◌, Bool, true, false, Result, Ok, Err, bytes_eq, codes, if◌then◌else◌}
 use Rattle.rt_forms.specs.Lexeme.{Place}
 use Rattle.rt_forms.specs.Form.{Form, next, one, look, check, done, ◌>>=◌, choose, loop, unless, Turn, More, Done}
 use Rattle.rt_forms.specs.Reading.{the_word, a_name, option_rest}
 use Rattle.def_text.specs.declared.error.DefError.{DefError}
-use Rattle.def_text.specs.declared.error.DefError.TheVariants.{Expected, Refused, NotYet}
+use Rattle.def_text.specs.declared.error.DefError.TheVariants.{Expected, Refused}
 use Rattle.def_text.specs.declared.kinds.NetOption.{NetOption}
 use Rattle.def_text.specs.declared.kinds.NetOption.TheVariants.{Wiring, Subnet, Rule, Unused}
 use Rattle.def_text.specs.declared.def.DefNet.{DefNet}
 use Rattle.def_text.specs.declared.nets.OpenNet.{OpenNet}
 use Rattle.def_text.specs.declared.sections.Listed.{Listed}
-use Rattle.def_text.specs.Defs.{IsConnection}
 use Rattle.def_text.specs.Kinds.{net_option_of}
 use Rattle.def_text.specs.Parts.{no_bracket, here}
 use Rattle.def_text.specs.Wiring.{wiring_range}
@@ -19,10 +18,6 @@ use Rattle.def_text.specs.Sections.{new_name}
 -- MUSTJOIN isn't supported as a name
 abbrev pub joined_by_must : Place → Result (Unit {0}) DefError
 joined_by_must w = if bytes_eq w.word (codes "MUSTJOIN") then Err (Refused w.line w.word) else Ok tt
-
--- a third connection isn't built yet
-abbrev pub third : List (List ℕ × List ℕ) → Place → Result (Unit {0}) DefError
-third pins first = if nat_le 2 (length pins) then Err (NotYet first.line) else Ok tt
 
 -- `)`, or `+` before SYNTHESIZED
 abbrev pub connection_end : Place → Result Bool DefError
@@ -42,17 +37,11 @@ connection_tail = do
 -- `( comp pin [+ SYNTHESIZED] )`, or `( PIN io [+ SYNTHESIZED] )`
 unfoldable pub connection : List (List ℕ × List ℕ) → Form DefError (Turn (List (List ℕ × List ℕ)))
 connection pins = do
-  first ← next
-  _ ← check (third pins first)
+  _ ← next
   of ← a_name
   pin ← a_name
   _ ← connection_tail
   done (More (pins ++ (of.word, pin.word) ∷ []))
-
--- connections, at most two
-pub record AreFew (pins : List (List ℕ × List ℕ)) : Type 0 where
-  pub all : All IsConnection pins
-  pub few : length pins ≤ 2
 
 abbrev pub connections : Form DefError (List (List ℕ × List ℕ))
 connections = loop (unless no_bracket connection) []

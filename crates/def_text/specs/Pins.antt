@@ -5,7 +5,6 @@ use Rattle.rt_base.specs.Orientations.{placed}
 use Rattle.rt_base.specs.Ranges.{IsPointWithin, AreSidesWithin}
 use Rattle.rt_base.specs.declared.orient.Orient.{Orient}
 use Rattle.rt_base.specs.declared.geometry.Point.{Point}
-use Rattle.rt_forms.specs.Lexeme.{Place}
 use Rattle.rt_forms.specs.Form.{Form, next, look, check, done, ◌>>=◌, choose, loop, Turn, More, Done}
 use Rattle.rt_forms.specs.Reading.{a_name, option_rest}
 use Rattle.def_text.specs.declared.error.DefError.{DefError}

@@ -1,5 +1,5 @@
 -- Polygons of BLOCKAGES (DEF 5.8, Blockages: POLYGON).
-use Rattle.std.specs.Prelude.{◌≡◌, ℕ, List, [], ◌∷◌, ◌++◌, Result, Ok, Err, Bool, true, false, if◌then◌else◌}
+use Rattle.std.specs.Prelude.{◌≡◌, List, [], ◌∷◌, ◌++◌, Result, Ok, Err, false, if◌then◌else◌}
 use Rattle.rt_base.specs.declared.geometry.Point.{Point}
 use Rattle.rt_forms.specs.Lexeme.{Lexeme, At, End, Place, is_end}
 use Rattle.rt_forms.specs.Form.{Faults, Form, Read, RefusesOne, check, done, ◌>>=◌, loop, unless, Turn, More}

@@ -1,13 +1,12 @@
 -- A DEF text: statements and sections in any order, ended by END DESIGN (DEF 5.8, Order of DEF Statements; that any order is admitted is this project's choice).
 use Rattle.def_text.specs.Blockages.{more_blockages}
 use Rattle.rt_base.specs.Sides.{Sides}
-use Rattle.std.specs.Prelude.{ℕ, List, [], ◌∷◌, ◌++◌, Result, Ok, Err, Option, Some, None, Bool, bytes_eq, nat_eq, codes, ◌&&◌, if◌then◌else◌, ◌^◌, ◌≤◌, ◌<◌, length, All, IfSome}
-use Rattle.std.specs.List.{list_all}
+use Rattle.std.specs.Prelude.{ℕ, List, [], ◌∷◌, ◌++◌, Result, Ok, Err, Option, Some, None, codes, ◌^◌, ◌≤◌, ◌<◌, length, All, IfSome}
 use Rattle.rt_forms.specs.Lexeme.{Place}
 use Rattle.rt_forms.specs.Form.{Form, next, check, done, ◌>>=◌, loop, whole, Turn, More, Done}
 use Rattle.rt_forms.specs.Reading.{the_word, semicolon, left, rest, up_to_word, up_to_pair}
 use Rattle.def_text.specs.declared.error.DefError.{DefError}
-use Rattle.def_text.specs.declared.error.DefError.TheVariants.{Unknown, Missing, NotYet}
+use Rattle.def_text.specs.declared.error.DefError.TheVariants.{Unknown, Missing}
 use Rattle.def_text.specs.declared.kinds.Statement.{Statement}
 use Rattle.def_text.specs.declared.kinds.Statement.TheVariants.{Units, Die, Tracks, Unused, Skipped, Extension, Vias, Components, Pins, Blockages, Special, Nets, End, Other}
 use Rattle.rt_base.specs.Ranges.{AreSidesWithin}
@@ -31,7 +30,7 @@ use Rattle.def_text.specs.Nets.{net_item}
 
 -- nothing was read yet of a text of so many words
 abbrev pub nothing_read : ℕ → Parsed
-nothing_read total = record { total = total; units = None; die = None; tracks = []; vias = None; components = None; pins = None; blockages = None; special = None; nets = None; skipped = 0; end = 0 }
+nothing_read total = record { total = total; units = None; die = None; tracks = []; vias = None; components = None; pins = None; blockages = None; special = None; nets = None; skipped = 0 }
 
 -- `UNITS DISTANCE MICRONS n ;`
 unfoldable pub units_statement : Place → Parsed → Form DefError (Turn Parsed)
@@ -117,7 +116,7 @@ statement_by Extension w s = do
   done (More s)
 statement_by End w s = do
   _ ← the_word (codes "DESIGN")
-  done (Done (record s { end = w.line }))
+  done (Done s)
 statement_by Other w s = check (Err (Unknown w.line))
 
 unfoldable pub statement : Parsed → Form DefError (Turn Parsed)
@@ -172,28 +171,13 @@ finished_of (Some units) (Some sides) s = Ok (record {
 abbrev pub finished : Parsed → Result Def DefError
 finished s = finished_of s.units s.die s
 
--- ---- what is built for now
-
-abbrev pub is_unwired : DefNet → Bool
-is_unwired n = nat_eq (length n.wiring) 0
-
--- what the design is built from for now: no vias, and no wiring
-abbrev pub is_built : Def → Bool
-is_built d = nat_eq (length d.vias) 0 && list_all is_unwired d.special && list_all is_unwired d.nets
-
--- a text that has more is refused at this line, that of its END
-abbrev pub built : ℕ → Def → Result (Unit {0}) DefError
-built line d = if is_built d then Ok tt else Err (NotYet line)
-
 -- ---- the whole text
 
 unfoldable pub a_def : Form DefError Def
 a_def = do
   total ← left
   s ← loop statement (nothing_read total)
-  d ← check (finished s)
-  _ ← check (built s.end d)
-  done d
+  check (finished s)
 
 abbrev pub def_form : Form DefError Def
 def_form = whole a_def

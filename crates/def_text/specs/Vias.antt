@@ -1,5 +1,5 @@
 -- VIAS (DEF 5.8, Vias): where the words of each stand.
-use Rattle.std.specs.Prelude.{ℕ, ◌-◌, List, [], ◌∷◌, ◌++◌}
+use Rattle.std.specs.Prelude.{ℕ, ◌-◌, [], ◌∷◌, ◌++◌}
 use Rattle.rt_forms.specs.Form.{Form, check, done, ◌>>=◌}
 use Rattle.rt_forms.specs.Reading.{a_name, rest}
 use Rattle.def_text.specs.declared.error.DefError.{DefError}

@@ -65,11 +65,6 @@ pub enum DefError {
     Missing {
         what: Name,
     },
-    /// A statement, an option or a connection that isn't built yet begins on this line.
-    #[error("line {line}: not yet")]
-    NotYet {
-        line: u32,
-    },
     /// Memory ran out.
     #[error("out of memory")]
     Memory,

@@ -6,11 +6,11 @@ ghost use Rattle.rt_forms.specs.Reading.{left_of};
 ghost use Rattle.rt_forms.specs.Word.{place_of};
 ghost use Rattle.def_text.specs.declared.def.DefNet.{DefNet};
 ghost use Rattle.def_text.specs.Faults.{def_faults};
-ghost use Rattle.def_text.specs.Defs.{IsRange};
+ghost use Rattle.def_text.specs.Defs.{IsConnection, IsRange};
 ghost use Rattle.def_text.specs.Parts.{no_bracket};
 ghost use Rattle.def_text.specs.Wiring.{IsNetOf};
 ghost use Rattle.def_text.specs.Sections.{AreListed, more_items};
-ghost use Rattle.def_text.specs.Nets.{AreFew, joined_by_must as joined_by_must_of, connection_tail as connection_tail_form, connection as connection_form, connections as connections_form, net_wiring as net_wiring_form, net_option as net_option_form, more_net as more_net_form, net_item as net_item_form};
+ghost use Rattle.def_text.specs.Nets.{joined_by_must as joined_by_must_of, connection_tail as connection_tail_form, connection as connection_form, connections as connections_form, net_wiring as net_wiring_form, net_option as net_option_form, more_net as more_net_form, net_item as net_item_form};
 
 use crate::def::DefNet;
 use crate::error::DefError;
@@ -63,14 +63,12 @@ fn connection(
     words: &mut Words,
     pins: &mut Seq<(Name, Name)>,
 ) -> Result<(), DefError>
-    requires { AreFew pins.old }
+    requires { All IsConnection pins.old }
     ensures reads { Reads def_faults (λ _. More pins.new) result words.old words.new (connection_form pins.old) }
-    ensures sound { OnOk result (AreFew pins.new) }
+    ensures sound { OnOk result (All IsConnection pins.new) }
+    ensures few { OnOk result (length pins.new + length words.new ≤ length pins.old + length words.old) }
 {
-    let first = words.next()?;
-    if pins.len() >= 2 {
-        return Err(DefError::NotYet { line: first.line });
-    }
+    words.next()?;
     let of = name(words)?;
     let pin = name(words)?;
     connection_tail(words)?;
@@ -84,9 +82,10 @@ fn further_connections(
     words: &mut Words,
     pins: &mut Seq<(Name, Name)>,
 ) -> Result<(), DefError>
-    requires { AreFew pins.old }
+    requires { All IsConnection pins.old }
     ensures reads { Looks def_faults (λ _. pins.new) result words.old words.new (loop (unless no_bracket connection_form) pins.old) }
-    ensures sound { OnOk result (AreFew pins.new) }
+    ensures sound { OnOk result (All IsConnection pins.new) }
+    ensures few { OnOk result (length pins.new + length words.new ≤ length pins.old + length words.old) }
 {
     'connections: while words.at(b"(") {
         connection(alloc, words, pins)?;
@@ -94,10 +93,11 @@ fn further_connections(
     Ok(())
 }
 
-/// The connections of a net.
+/// The connections of a net, no more than it has words.
 fn connections(alloc: Global, words: &mut Words) -> Result<Seq<(Name, Name)>, DefError>
     ensures reads { Looks def_faults (λ x. x) result words.old words.new connections_form }
-    ensures sound { IfOk result (λ pins. AreFew pins) }
+    ensures sound { IfOk result (λ pins. All IsConnection pins) }
+    ensures few { IfOk result (λ pins. length pins + length words.new ≤ length words.old) }
 {
     let mut pins = Seq::new(alloc);
     further_connections(alloc, words, &mut pins)?;

@@ -1,23 +1,25 @@
 //! DEF texts.
 ghost use Rattle.std.specs.Prelude.{◌≡◌, ◌<◌, ◌≤◌, ◌+◌, ◌^◌, length, IfOk, OnOk};
 ghost use Rattle.rt_base.specs.Scan.{IsCutInto};
+ghost use Rattle.rt_forms.specs.Bytes.{ReadsBytes, unread as unread_of};
 ghost use Rattle.rt_forms.specs.Clauses.{Reads, Looks, ReadsText};
 ghost use Rattle.rt_forms.specs.Form.{turn, loop};
 ghost use Rattle.rt_forms.specs.Reading.{left_of};
+ghost use Rattle.def_text.specs.declared.error.DefError.TheVariants.{Scan};
 ghost use Rattle.def_text.specs.Faults.{def_faults};
 ghost use Rattle.def_text.specs.Defs.{IsDef, AreRanges, AreCloses};
 ghost use Rattle.def_text.specs.Texts.{IsParsed, statement as statement_form, until_units as until_units_form, nothing_read, a_def as a_def_form, def_form, units_form};
-ghost use Rattle.def_text.specs.Clauses.{unread as unread_of, ReadsBeginning, ReadsBytes};
+ghost use Rattle.def_text.specs.Clauses.{ReadsBeginning};
 
 use crate::def::Def;
 use crate::error::DefError;
 use crate::parts::Words;
-use crate::statements::{Parsed, built, finished, statement};
+use crate::statements::{Parsed, finished, statement};
 use rt_base::{Name, ScanError, Seq, Token, tokens};
 use std::alloc::Global;
 
 /// Nothing was read yet of a text of so many words.
-pub fn nothing_read(alloc: Global, total: u32) -> Parsed
+fn nothing_read(alloc: Global, total: u32) -> Parsed
     ensures value { result ≡ nothing_read total }
     ensures sound { IsParsed result }
 {
@@ -33,12 +35,11 @@ pub fn nothing_read(alloc: Global, total: u32) -> Parsed
         special: None,
         nets: None,
         skipped: 0,
-        end: 0,
     }
 }
 
 /// The statements of a text up to its end.
-pub fn statements(alloc: Global, words: &mut Words, parsed: &mut Parsed) -> Result<(), DefError>
+fn statements(alloc: Global, words: &mut Words, parsed: &mut Parsed) -> Result<(), DefError>
     requires sound { IsParsed parsed.old }
     requires few { parsed.old.skipped + length words.old ≤ 2 ^ 32 }
     ensures reads { Reads def_faults (λ _. parsed.new) result words.old words.new (loop statement_form parsed.old) }
@@ -60,10 +61,7 @@ fn a_def(alloc: Global, words: &mut Words, total: u32) -> Result<Def, DefError>
 {
     let mut parsed = nothing_read(alloc, total);
     statements(alloc, words, &mut parsed)?;
-    let end = parsed.end;
-    let def = finished(alloc, parsed)?;
-    built(end, &def)?;
-    Ok(def)
+    finished(alloc, parsed)
 }
 
 /// What a text says, with nothing behind `END DESIGN`.
@@ -131,7 +129,9 @@ pub fn read_units_tokens(alloc: Global, text: &[u8], tokens: &[Token]) -> Result
     the_units(alloc, &mut words, tokens.len() as u32)
 }
 
-/// What a text with these tokens says.
+/// What a text with these tokens says (DEF 5.8): statements and sections in any order, ended by
+/// `END DESIGN`. Each refusal is that of the first word that isn't admitted; which fault it is says
+/// [`DefError`].
 pub fn read_def_tokens(alloc: Global, text: &[u8], tokens: &[Token]) -> Result<Def, DefError>
     requires text { length text.now < 2 ^ 32 }
     requires tokens { IsCutInto text.now tokens.now }
@@ -146,7 +146,7 @@ pub fn read_def_tokens(alloc: Global, text: &[u8], tokens: &[Token]) -> Result<D
 
 /// Why a text has no tokens, as an error of DEF.
 fn unread(error: ScanError) -> DefError
-    ensures { result ≡ unread_of error }
+    ensures { result ≡ unread_of def_faults Scan error }
 {
     match error {
         ScanError::Memory => DefError::Memory,
@@ -155,10 +155,10 @@ fn unread(error: ScanError) -> DefError
     }
 }
 
-/// The database units per micron of a text, as `read_units_tokens` reads them.
+/// Cuts a text into tokens and reads its database units per micron, as `read_units_tokens` does.
 pub fn read_units(alloc: Global, text: &[u8]) -> Result<u32, DefError>
     requires { length text.now < 2 ^ 32 }
-    ensures { ReadsBytes (λ tokens r. ReadsBeginning units_form text.now tokens r) text.now result }
+    ensures { ReadsBytes def_faults Scan (λ tokens r. ReadsBeginning units_form text.now tokens r) text.now result }
 {
     match tokens(alloc, text) {
         Ok(tokens) => read_units_tokens(alloc, text, tokens.as_slice()),
@@ -166,10 +166,11 @@ pub fn read_units(alloc: Global, text: &[u8]) -> Result<u32, DefError>
     }
 }
 
-/// What a text says, as `read_def_tokens` reads it.
+/// Cuts a text into tokens and reads it, as `read_def_tokens` does. `Scan` is a fault of the bytes; it
+/// comes before any other.
 pub fn read_def(alloc: Global, text: &[u8]) -> Result<Def, DefError>
     requires { length text.now < 2 ^ 32 }
-    ensures reads { ReadsBytes (λ tokens r. ReadsText def_faults (λ x. x) def_form text.now tokens r) text.now result }
+    ensures reads { ReadsBytes def_faults Scan (λ tokens r. ReadsText def_faults (λ x. x) def_form text.now tokens r) text.now result }
     ensures fits { IfOk result (λ d. IsDef d) }
     ensures closes { IfOk result (λ d. AreCloses (length text.now) d.nets) }
 {

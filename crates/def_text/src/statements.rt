@@ -1,12 +1,11 @@
 //! Statements.
 ghost use Rattle.std.specs.Prelude.{◌≡◌, ◌^◌, ◌+◌, ◌≤◌, length, bytes_eq, codes, IfOk, OnOk, List, ℕ};
-ghost use Rattle.std.specs.List.{list_all};
 ghost use Rattle.rt_forms.specs.Clauses.{Reads, Gives};
 ghost use Rattle.rt_forms.specs.Form.{More, turn, loop};
 ghost use Rattle.rt_forms.specs.Word.{place_of};
 ghost use Rattle.def_text.specs.Faults.{def_faults};
 ghost use Rattle.def_text.specs.Defs.{IsDef, AreRanges};
-ghost use Rattle.def_text.specs.Texts.{IsParsed, units_statement as units_statement_form, die_statement as die_statement_form, tracks_statement as tracks_statement_form, vias_section as vias_section_form, components_section as components_section_form, pins_section as pins_section_form, blockages_section as blockages_section_form, special_section as special_section_form, nets_section as nets_section_form, statement as statement_form, or_none as or_none_of, finished as finished_of, is_unwired as is_unwired_of, is_built as is_built_of, built as built_of};
+ghost use Rattle.def_text.specs.Texts.{IsParsed, units_statement as units_statement_form, die_statement as die_statement_form, tracks_statement as tracks_statement_form, vias_section as vias_section_form, components_section as components_section_form, pins_section as pins_section_form, blockages_section as blockages_section_form, special_section as special_section_form, nets_section as nets_section_form, statement as statement_form, or_none as or_none_of, finished as finished_of};
 
 use crate::blockages::{Blocked, blockages};
 use crate::components::components;
@@ -39,8 +38,6 @@ pub struct Parsed {
     pub special: Option<Seq<DefNet>>,
     pub nets: Option<Seq<DefNet>>,
     pub skipped: u32,
-    /// The line of its last `END`.
-    pub end: u32,
 }
 
 /// `UNITS DISTANCE MICRONS n ;` behind its first word.
@@ -324,7 +321,6 @@ pub fn statement(alloc: Global, words: &mut Words, parsed: &mut Parsed) -> Resul
         }
         Statement::End => {
             words.expect(b"DESIGN")?;
-            parsed.end = word.line;
             Ok(true)
         }
         Statement::Other => Err(DefError::Unknown { line: word.line }),
@@ -370,34 +366,4 @@ pub fn finished(alloc: Global, parsed: Parsed) -> Result<Def, DefError>
         nets: or_none(alloc, parsed.nets),
         skipped: parsed.skipped,
     })
-}
-
-fn is_unwired(net: &DefNet) -> bool
-    ensures { result ≡ is_unwired_of net.now }
-{
-    net.wiring.len() == 0
-}
-
-/// Whether none of these nets has wiring.
-fn are_unwired(nets: &[DefNet]) -> bool
-    ensures { result ≡ list_all is_unwired_of nets.now }
-{
-    nets.iter().all(|net| is_unwired(net))
-}
-
-/// Whether a design is built from all that a text says.
-fn is_built(def: &Def) -> bool
-    ensures { result ≡ is_built_of def.now }
-{
-    def.vias.len() == 0 && are_unwired(def.special.as_slice()) && are_unwired(def.nets.as_slice())
-}
-
-/// Refuses a text, whose END has this line, from all of which no design is built yet.
-pub fn built(line: u32, def: &Def) -> Result<(), DefError>
-    ensures { Gives def_faults (λ x. x) result (built_of line def.now) }
-{
-    if !is_built(def) {
-        return Err(DefError::NotYet { line });
-    }
-    Ok(())
 }

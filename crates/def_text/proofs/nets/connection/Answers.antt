@@ -1,11 +1,10 @@
-use Rattle.std.proofs.Common.{subst, sym}
-use Rattle.def_text.specs.Defs.{IsName}
-use Rattle.def_text.specs.Nets.{AreFew}
-use Rattle.def_text.proofs.Listing.{few_more}
+use Rattle.std.proofs.Common.{subst, sym, All}
+use Rattle.def_text.specs.Defs.{IsName, IsConnection}
+use Rattle.def_text.proofs.Listing.{All-one}
 use Rattle.def_text.proofs.nets.connection.Goals as goal
 
 pub returns-clause-sound : goal.returns-clause-sound
 returns-clause-sound c =
     let first = subst (λ n. IsName n) (sym c.in_ok-new.ensures) c.in_ok-of.ensures.name in
     let second = subst (λ n. IsName n) (sym c.in_ok-new-2.ensures) c.in_ok-pin.ensures.name in
-    subst (λ ps. AreFew ps) (sym c.in_ok-push.ensures.ok) (few_more c.args.pins.now (c.in_ok-new.field-0, c.in_ok-new-2.field-0) c.len.result c.requires c.len.ensures c.if-len-ge2.false (first, second))
+    subst (λ ps. All IsConnection ps) (sym c.in_ok-push.ensures.ok) (All-one IsConnection c.args.pins.now (c.in_ok-new.field-0, c.in_ok-new-2.field-0) c.requires (first, second))

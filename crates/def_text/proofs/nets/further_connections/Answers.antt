@@ -1,4 +1,4 @@
-use Rattle.std.proofs.Common.{ap, not, sym, refl, ◌∙◌, false}
+use Rattle.std.proofs.Common.{ap, not, sym, refl, ◌∙◌, false, arith}
 use Rattle.rt_forms.proofs.Loops.{until_more, until_stop, until_err}
 use Rattle.def_text.proofs.nets.further_connections.Goals as goal
 
@@ -9,6 +9,7 @@ pub connections-preserved : goal.connections-preserved
 connections-preserved c = record {
   until = until_more {b = false} c.connections.invariant.until (ap not (sym c.at.ensures ∙ c.connections-test.true)) c.in_ok-connection.ensures.reads refl;
   sound = c.in_ok-connection.ensures.sound;
+  few = omega (arith, c.in_ok-connection.ensures.few, c.connections.invariant.few);
 }
 
 pub returns-clause-reads : goal.returns-clause-reads

@@ -1,5 +1,5 @@
-use Rattle.std.proofs.Common.{◌≤◌, ◌<◌, ◌-◌, subst, sym, arith, bytes_eq, codes}
-use Rattle.rt_forms.specs.Reading.{left_of, rest}
+use Rattle.std.proofs.Common.{◌≤◌, ◌-◌, subst, sym, arith}
+use Rattle.rt_forms.specs.Reading.{rest}
 use Rattle.rt_forms.proofs.Skips.{lawful_up_to, takes_up_to}
 use Rattle.def_text.specs.Faults.{def_faults}
 use Rattle.def_text.specs.declared.def.DefVia.{DefVia}
