@@ -7,3 +7,4 @@ pub mod Paths
 pub mod Options
 pub mod Vias
 pub mod Walks
+pub mod Says

@@ -1,11 +1,12 @@
 //! Wiring of a net.
 ghost use Rattle.std.specs.Prelude.{◌≡◌, length, IfOk};
 ghost use Rattle.rt_base.specs.Tokens.{AllInside};
-ghost use Rattle.rt_forms.specs.Clauses.{Looks, ReadsText};
+ghost use Rattle.rt_forms.specs.Clauses.{Looks, Gives, ReadsText};
 ghost use Rattle.def_wires.specs.Faults.{wire_faults};
 ghost use Rattle.def_wires.specs.Sound.{IsWiring};
 ghost use Rattle.def_wires.specs.Names.{AreNamesOf};
 ghost use Rattle.def_wires.specs.Options.{wiring_form};
+ghost use Rattle.def_wires.specs.Says.{says};
 
 use crate::error::WireFault;
 use crate::names::TechNames;
@@ -50,6 +51,7 @@ pub fn read_wiring(
     requires tokens { AllInside (length text.now) tokens.now }
     requires names { AreNamesOf names.now tech.now }
     ensures reads { ReadsText wire_faults (λ w. w) (wiring_form tech.now special) text.now tokens.now result }
+    ensures says { Gives wire_faults (λ w. w) result (says (wiring_form tech.now special) text.now tokens.now) }
     ensures sound { IfOk result (IsWiring tech.now) }
 {
     let mut words: Words = Words::new(text, tokens);

@@ -3,13 +3,14 @@ ghost use Rattle.std.specs.Prelude.{◌≡◌, ◌++◌, ◌∷◌, [], ◌+◌,
 ghost use Rattle.rt_base.specs.Tokens.{AllInside};
 ghost use Rattle.rt_base.specs.Ranges.{AreSidesWithin};
 ghost use Rattle.rt_shapes.specs.GeneratedVias.{IsForm, generated_of};
-ghost use Rattle.rt_forms.specs.Clauses.{Reads, Looks, ReadsText};
+ghost use Rattle.rt_forms.specs.Clauses.{Gives, Reads, Looks, ReadsText};
 ghost use Rattle.rt_forms.specs.Form.{More, loop, unless, no_word as no_word_of};
 ghost use Rattle.rt_forms.specs.Word.{place_of};
 ghost use Rattle.def_wires.specs.Faults.{wire_faults};
 ghost use Rattle.def_wires.specs.Sound.{IsOn, IsParts, IsPair, IsFormOn};
 ghost use Rattle.def_wires.specs.Names.{KnowsLayers};
 ghost use Rattle.def_wires.specs.Meaning.{Metal};
+ghost use Rattle.def_wires.specs.Says.{says};
 ghost use Rattle.def_wires.specs.Vias.{via_word as via_word_of, via_rect as via_rect_form, rect_by, more_rects as more_rects_form, no_parts as no_parts_of, pair_from as pair_from_form, rule_part as rule_part_form, cut_part as cut_part_form, layers_part as layers_part_form, spacing_part as spacing_part_form, enclosure_part as enclosure_part_form, array_part as array_part_form, part_by, more_parts as more_parts_form, form_of as form_of_parts, generated_or_more, rows_of, columns_of, rects_then as rects_then_form, parts_then as parts_then_form, via_by, via_rects as via_rects_form, named_via as named_via_form, via_form};
 
 use crate::error::WireFault;
@@ -500,6 +501,7 @@ pub fn read_via(
     requires names { KnowsLayers names.now tech.now.layers }
     ensures sound { IfOk result (λ v. All (IsOn (length tech.now.layers) (2 ^ 60 + 2 ^ 30)) v.rects) }
     ensures reads { ReadsText wire_faults (λ v. v) (via_form name.now tech.now) text.now tokens.now result }
+    ensures says { Gives wire_faults (λ v. v) result (says (via_form name.now tech.now) text.now tokens.now) }
 {
     let mut words: Words = Words::new(text, tokens);
     whole_via(alloc, name, &mut words, tech, names)
