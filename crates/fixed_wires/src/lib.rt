@@ -2,6 +2,8 @@
 #![tactic(auto)]
 
 mod ranges;
+#[cfg(test)]
+mod tests;
 mod vias;
 mod wires;
 
