@@ -1,0 +1,5 @@
+pub mod Bounds
+mod Greatest
+mod Lists
+mod CoverLemmas
+mod SpanLemmas
