@@ -1,5 +1,5 @@
--- The design that LEF and DEF describe (LEF 5.8: LAYER, VIA DEFAULT and MACRO; DEF 5.8: DIEAREA, TRACKS, COMPONENTS, PINS, BLOCKAGES and NETS). The kinds of nets, tiles and entries are this project's own.
-use Rattle.std.specs.Prelude.{◌≡◌, ℕ, List, [], ◌∷◌, ◌++◌, IsTrue, if◌then◌else◌, nat_lt, ◌↔◌, length, map, flat_map, codes, Contains, AllPairs}
+-- The design that LEF, DEF and guides describe (LEF 5.8: LAYER, VIA and MACRO; DEF 5.8: DIEAREA, TRACKS, VIAS, COMPONENTS, PINS, BLOCKAGES, SPECIALNETS and NETS; ISPD 2018 contest: guides). The kinds of nets, tiles and entries are this project's own.
+use Rattle.std.specs.Prelude.{◌≡◌, ℕ, List, [], ◌∷◌, ◌++◌, IsTrue, Bool, false, not, if◌then◌else◌, nat_lt, ◌↔◌, length, map, flat_map, codes, Contains, AllPairs, Option, Some, None}
 use Rattle.std.specs.List.{AllZip, enumerate_from}
 use Rattle.rt_base.specs.Sides.{Sides}
 use Rattle.rt_base.specs.declared.grid.Grid.{Grid}
@@ -13,7 +13,7 @@ use Rattle.rt_base.specs.declared.walk.Entry.{Entry}
 use Rattle.track_graph.specs.declared.design.Design.{Design}
 use Rattle.track_graph.specs.declared.design.Net.{Net}
 use Rattle.track_graph.specs.declared.design.NetKind.{NetKind}
-use Rattle.track_graph.specs.declared.design.NetKind.TheVariants.{Routable, Prewired, Single}
+use Rattle.track_graph.specs.declared.design.NetKind.TheVariants.{Routable, Prewired, Unguided, Single}
 use Rattle.track_graph.specs.declared.design.Options.{Options}
 use Rattle.track_graph.specs.declared.design.Pin.{Pin}
 use Rattle.track_graph.specs.Designs.{IsUsable}
@@ -24,12 +24,16 @@ use Rattle.lef_text.specs.declared.lef.Lef.{Lef}
 use Rattle.def_text.specs.declared.def.Def.{Def}
 use Rattle.def_text.specs.declared.def.DefNet.{DefNet}
 use Rattle.def_text.specs.declared.def.IoPin.{IoPin}
+use Rattle.guide_text.specs.IsGuides.{Guide}
+use Rattle.net_guides.specs.NetGuides.{is_guided, boxes_of}
 use Rattle.cells.specs.Cells.{fixed_shapes, component_shapes}
 use Rattle.cells.specs.Owners.{owner_of, io_owner}
 use Rattle.pin_access.specs.EntryOrder.{system_of, IsEntryBefore}
 use Rattle.build.specs.declared.layer_names.LayerNames.{LayerNames}
+use Rattle.build.specs.Inputs.{Input}
 use Rattle.build.specs.LookUps.{layer_names_of, metals_of, connected_rects}
 use Rattle.build.specs.TrackLines.{AreTracksOf, routing_layers}
+use Rattle.build.specs.Wires.{special_shapes, wired_shapes}
 
 -- a via of LEF; routing may use it where it is DEFAULT and its rectangles join two neighbouring levels
 pub record IsViaOfLef (tech : Tech) (said via : Via) : Type 0 where
@@ -50,17 +54,35 @@ abbrev pub pin_shapes : LayerNames → (List ℕ × List ℕ → Owner) → IoPi
 pin_shapes names whose pin = shapes_on names (io_owner whose pin.name) pin.rects
 
 -- the shapes of the components in file order, then those of the pins of the design, then the blockages, which are nobody's
-abbrev pub fixed_of : Lef → Def → List Shape
-fixed_of lef def =
+abbrev pub placed_of : Lef → Def → List Shape
+placed_of lef def =
     flat_map (component_shapes lef.macros (owner_of def.nets)) def.components ++ flat_map (pin_shapes (layer_names_of lef) (owner_of def.nets)) def.pins ++ shapes_on (layer_names_of lef) Nobody def.blockages
 
--- a net with wiring of its own is wired already; one with fewer than two pins has nothing to be joined
-abbrev pub kind_of : DefNet → NetKind
-kind_of net = if nat_lt 0 (length net.wiring) then Prewired else if nat_lt (length net.pins) 2 then Single else Routable
+-- and then the wiring of the special nets, and that of the nets, in file order
+abbrev pub fixed_of : Input → List Shape
+fixed_of i = placed_of i.lef i.def ++ flat_map (special_shapes i) i.def.special ++ flat_map (wired_shapes i) (enumerate_from 0 i.def.nets)
+
+-- there are guides, and none for the net of this name
+abbrev pub is_unguided : Option (List Guide) → List ℕ → Bool
+is_unguided None name = false
+is_unguided (Some guides) name = not (is_guided guides name)
+
+-- a net with wiring of its own is wired already; one with fewer than two pins has nothing to be joined; one that the guides leave out isn't routed
+abbrev pub kind_of : Option (List Guide) → DefNet → NetKind
+kind_of guides net =
+    if nat_lt 0 (length net.wiring) then Prewired
+    else if nat_lt (length net.pins) 2 then Single
+    else if is_unguided guides net.name then Unguided
+    else Routable
 
 -- without guides a net may run anywhere in the die: a box for each level
 abbrev pub whole_guide : Sides → List Layer → List (ℕ × Sides)
 whole_guide die layers = map (λ (l : ℕ × Layer). (l.0, die)) (enumerate_from 0 (routing_layers layers))
+
+-- the guide of the net of this name
+abbrev pub guide_of : Sides → List Layer → Option (List Guide) → List ℕ → List (ℕ × Sides)
+guide_of die layers None name = whole_guide die layers
+guide_of die layers (Some guides) name = boxes_of layers guides name
 
 -- the entries of pin k of a net
 pub record AreEntriesOf (g : TrackSystem) (k : ℕ) (rects : List Metal) (entries : List Entry) : Type 0 where
@@ -74,11 +96,11 @@ pub record IsPinOf (lef : Lef) (def : Def) (g : TrackSystem) (named : ℕ × (Li
   pub rects : pin.rects ≡ connected_rects lef def named.1
   pub entries : AreEntriesOf g named.0 pin.rects pin.entries
 
-pub record IsNetOf (lef : Lef) (def : Def) (g : TrackSystem) (said : DefNet) (net : Net) : Type 0 where
+pub record IsNetOf (i : Input) (g : TrackSystem) (said : DefNet) (net : Net) : Type 0 where
   pub name : net.name ≡ said.name
-  pub pins : AllZip (IsPinOf lef def g) (enumerate_from 0 said.pins) net.pins
-  pub guide : net.guide ≡ whole_guide g.die g.tech.layers
-  pub kind : net.kind ≡ kind_of said
+  pub pins : AllZip (IsPinOf i.lef i.def g) (enumerate_from 0 said.pins) net.pins
+  pub guide : net.guide ≡ guide_of g.die g.tech.layers i.guides said.name
+  pub kind : net.kind ≡ kind_of i.guides said
   pub close : net.close ≡ said.close
 
 -- LEF's counts of statements that are read and not used, and then DEF's
@@ -88,12 +110,12 @@ skipped_of lef def = lef.skipped ++ (codes "NETS", def.skipped) ∷ []
 abbrev pub grid_of : Def → Options → Grid
 grid_of def options = record { die = def.die; tile = options.tile }
 
--- the design of LEF, DEF and options
-pub record IsDesignOf (lef : Lef) (def : Def) (chosen : Options) (d : Design) : Type 0 where
-  pub tech : IsTechOf lef d.tech
-  pub tracks : AreTracksOf lef def d.tracks
-  pub grid : d.grid ≡ grid_of def chosen
-  pub nets : AllZip (IsNetOf lef def (system_of d.tech d.tracks def.die)) def.nets d.nets
-  pub fixed : d.fixed ≡ fixed_of lef def
+-- the design of an input and options
+pub record IsDesignOf (i : Input) (chosen : Options) (d : Design) : Type 0 where
+  pub tech : IsTechOf i.lef d.tech
+  pub tracks : AreTracksOf i.lef i.def d.tracks
+  pub grid : d.grid ≡ grid_of i.def chosen
+  pub nets : AllZip (IsNetOf i (system_of d.tech d.tracks i.def.die)) i.def.nets d.nets
+  pub fixed : d.fixed ≡ fixed_of i
   pub options : d.options ≡ chosen
-  pub skipped : d.skipped ≡ skipped_of lef def
+  pub skipped : d.skipped ≡ skipped_of i.lef i.def

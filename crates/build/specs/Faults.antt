@@ -1,5 +1,5 @@
 -- What keeps a design from being built, one fault after the other: units, names, tracks and counts.
-use Rattle.std.specs.Prelude.{ℕ, ◌+◌, ◌*◌, ◌-◌, ◌%◌, ◌==◌, List, [], ◌∷◌, Bool, not, if◌then◌else◌, nat_lt, length, fold, sum_by, count_by, max, unsigned_abs, Option, Some, None, unwrap_or, is_some}
+use Rattle.std.specs.Prelude.{ℕ, ◌+◌, ◌*◌, ◌-◌, ◌%◌, ◌==◌, List, [], ◌∷◌, Bool, not, if◌then◌else◌, nat_lt, length, fold, sum_by, count_by, max, unsigned_abs, Option, Some, None, option_map, unwrap_or, is_some, bytes_eq, true, false}
 use Rattle.std.specs.List.{list_any, enumerate_from}
 use Rattle.std.specs.Option.{option_or}
 use Rattle.rt_base.specs.Sides.{Sides}
@@ -20,16 +20,22 @@ use Rattle.def_text.specs.declared.def.Def.{Def}
 use Rattle.def_text.specs.declared.def.DefNet.{DefNet}
 use Rattle.def_text.specs.declared.def.IoPin.{IoPin}
 use Rattle.def_text.specs.declared.def.TrackRow.{TrackRow}
+use Rattle.guide_text.specs.IsGuides.{Guide}
+use Rattle.def_wires.specs.declared.error.WireFault.{WireFault}
+use Rattle.fixed_wires.specs.FixedWires.{vias_fault, wires_fault}
 use Rattle.cells.specs.Cells.{macro_of}
 use Rattle.cells.specs.Owners.{owner_of}
 use Rattle.build.specs.declared.error.BuildError.{BuildError}
-use Rattle.build.specs.declared.error.BuildError.TheVariants.{Scale, NoMacro, NoComponent, NoPin, NoLayer, PinTwice, NoTracks, Limit}
+use Rattle.build.specs.declared.error.BuildError.TheVariants.{Scale, NoMacro, NoComponent, NoPin, NoLayer, NoNet, PinTwice, NoTracks, Limit}
 use Rattle.build.specs.declared.error.Limited.{Limited}
 use Rattle.build.specs.declared.error.Limited.TheVariants.{RoutingLayers, UsableVias, Tracks, Nets, FixedShapes, Coordinate, Entries, Tiles, TileShapes}
 use Rattle.build.specs.declared.layer_names.LayerNames.{LayerNames}
-use Rattle.build.specs.LookUps.{layer_names_of, is_known, has_component, has_pin}
+use Rattle.build.specs.Inputs.{Input}
+use Rattle.build.specs.LookUps.{layer_names_of, is_known, net_names, has_component, has_pin}
 use Rattle.build.specs.TrackLines.{is_used, line_count, routing_layers}
 use Rattle.build.specs.Built.{fixed_of}
+use Rattle.build.specs.WireErrors.{wiring_error}
+use Rattle.build.specs.Wires.{tech_said, wiring_tech}
 
 -- the first fault of these
 abbrev pub first_of : List (Option BuildError) → Option BuildError
@@ -75,8 +81,21 @@ connection_fault lef def n c = first_of (
     ∷ fault_if (not (same_owner (owner_of def.nets c) (OfNet n))) (PinTwice c.1)
     ∷ [])
 
-abbrev pub net_fault : Lef → Def → ℕ × DefNet → Option BuildError
-net_fault lef def net = first_by (connection_fault lef def net.0) net.1.pins
+-- the items of VIAS
+abbrev pub vias_part : Input → Option BuildError
+vias_part i = option_map wiring_error (vias_fault (tech_said i.lef) i.text i.tokens i.def.vias)
+
+-- the wiring of a net, where special of a net of SPECIALNETS
+abbrev pub wiring_fault : Input → Bool → DefNet → Option BuildError
+wiring_fault i special net = option_map wiring_error (wires_fault (wiring_tech i) i.text i.tokens special net.wiring)
+
+-- a net of NETS: its connections, and then its wiring
+abbrev pub net_fault : Input → ℕ × DefNet → Option BuildError
+net_fault i net = option_or (first_by (connection_fault i.lef i.def net.0) net.1.pins) (wiring_fault i false net.1)
+
+-- an entry of the guides: its net, by the names of NETS, and then the layers of its boxes
+abbrev pub guide_fault : LayerNames → List (List ℕ) → Guide → Option BuildError
+guide_fault names nets guide = option_or (fault_if (not (list_any (bytes_eq guide.0) nets)) (NoNet guide.0)) (rects_fault names guide.1)
 
 -- a routing layer for which no TRACKS statement is used
 abbrev pub level_fault : List TrackRow → Layer → Option BuildError
@@ -86,18 +105,24 @@ level_fault rows l = fault_if (not (list_any (is_used l) rows)) (NoTracks l.name
 abbrev pub limit_fault : Limited → ℕ → ℕ → Option BuildError
 limit_fault what count most = fault_if (nat_lt most count) (Limit what count most)
 
--- units, names, and layers without tracks, in file order; and how many routing layers there are
-abbrev pub name_fault : Lef → Def → Option BuildError
-name_fault lef def = first_of (
-    scale_fault lef def
-    ∷ first_by (row_fault (layer_names_of lef)) def.tracks
-    ∷ first_by (component_fault lef.macros) def.components
-    ∷ first_by (pin_fault (layer_names_of lef)) def.pins
-    ∷ rects_fault (layer_names_of lef) def.blockages
-    ∷ first_by (net_fault lef def) (enumerate_from 0 def.nets)
-    ∷ first_by (level_fault def.tracks) (routing_layers lef.layers)
-    ∷ limit_fault RoutingLayers (length (routing_layers lef.layers)) 16
-    ∷ [])
+-- units; names and wiring, section by section, each in file order; layers without tracks; guides; and how many routing layers there are
+abbrev pub name_faults : Input → List (Option BuildError)
+name_faults i =
+    scale_fault i.lef i.def
+    ∷ first_by (row_fault (layer_names_of i.lef)) i.def.tracks
+    ∷ vias_part i
+    ∷ first_by (component_fault i.lef.macros) i.def.components
+    ∷ first_by (pin_fault (layer_names_of i.lef)) i.def.pins
+    ∷ rects_fault (layer_names_of i.lef) i.def.blockages
+    ∷ first_by (wiring_fault i true) i.def.special
+    ∷ first_by (net_fault i) (enumerate_from 0 i.def.nets)
+    ∷ first_by (level_fault i.def.tracks) (routing_layers i.lef.layers)
+    ∷ first_by (guide_fault (layer_names_of i.lef) (net_names i.def.nets)) (unwrap_or i.guides [])
+    ∷ limit_fault RoutingLayers (length (routing_layers i.lef.layers)) 16
+    ∷ []
+
+abbrev pub name_fault : Input → Option BuildError
+name_fault i = first_of (name_faults i)
 
 -- the greatest distance of a side from 0
 abbrev pub farthest : Sides → ℕ
@@ -110,14 +135,17 @@ abbrev pub usable_count : Tech → ℕ
 usable_count tech = count_by (λ (v : Via). v.usable) tech.vias
 
 -- usable vias, track lines (level by level, bottom up), nets, shapes of the input and their coordinates
-abbrev pub count_fault : Lef → Def → Tech → Option BuildError
-count_fault lef def tech = first_of (
+abbrev pub count_faults : Input → Tech → List (Option BuildError)
+count_faults i tech =
     limit_fault UsableVias (usable_count tech) 64
-    ∷ first_by (λ (l : Layer). limit_fault Tracks (line_count l def.tracks) 65536) (routing_layers lef.layers)
-    ∷ limit_fault Nets (length def.nets) 1000000
-    ∷ limit_fault FixedShapes (length (fixed_of lef def)) 4194304
-    ∷ limit_fault Coordinate (largest_coordinate (fixed_of lef def)) 1073741824
-    ∷ [])
+    ∷ first_by (λ (l : Layer). limit_fault Tracks (line_count l i.def.tracks) 65536) (routing_layers i.lef.layers)
+    ∷ limit_fault Nets (length i.def.nets) 1000000
+    ∷ limit_fault FixedShapes (length (fixed_of i)) 4194304
+    ∷ limit_fault Coordinate (largest_coordinate (fixed_of i)) 1073741824
+    ∷ []
+
+abbrev pub count_fault : Input → Tech → Option BuildError
+count_fault i tech = first_of (count_faults i tech)
 
 -- how many entries the pins of these nets have
 abbrev pub entry_count : List Net → ℕ

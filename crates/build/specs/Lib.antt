@@ -1,10 +1,8 @@
 pub mod Built
 pub mod Faults
-pub mod Ground
-pub mod Indexes
-pub mod Indexing
-pub mod Lines
+pub mod Inputs
 pub mod LookUps
 pub mod Refusals
 pub mod TrackLines
-pub mod Usable
+pub mod WireErrors
+pub mod Wires

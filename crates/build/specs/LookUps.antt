@@ -1,4 +1,4 @@
--- Layers and pins by their names.
+-- Layers, pins and nets by their names.
 use Rattle.std.specs.Prelude.{ℕ, List, [], Bool, ◌||◌, if◌then◌else◌, map, position, bytes_eq, Option, option_map, unwrap_or, is_some}
 use Rattle.std.specs.List.{list_any, filter_map, find}
 use Rattle.rt_base.specs.Sides.{Sides}
@@ -7,6 +7,7 @@ use Rattle.rt_base.specs.declared.tech.LayerNo.{LayerNo}
 use Rattle.track_graph.specs.Metal.{Metal}
 use Rattle.lef_text.specs.declared.lef.Lef.{Lef}
 use Rattle.def_text.specs.declared.def.Def.{Def}
+use Rattle.def_text.specs.declared.def.DefNet.{DefNet}
 use Rattle.def_text.specs.declared.def.IoPin.{IoPin}
 use Rattle.cells.specs.Cells.{component_of, cell_pin}
 use Rattle.cells.specs.Owners.{is_io}
@@ -41,6 +42,9 @@ pin_rects pins name = unwrap_or (option_map (λ (p : IoPin). p.rects) (find (λ 
 
 abbrev pub pin_names : List IoPin → List (List ℕ)
 pin_names pins = map (λ (p : IoPin). p.name) pins
+
+abbrev pub net_names : List DefNet → List (List ℕ)
+net_names nets = map (λ (n : DefNet). n.name) nets
 
 -- a connection is to a pin of the design, or to one of a component that there is
 abbrev pub has_component : Def → List ℕ × List ℕ → Bool

@@ -2,6 +2,7 @@
 ghost use Rattle.std.specs.Prelude.{◌≡◌};
 ghost use Rattle.build.specs.declared.error.BuildError.TheVariants.{Memory as OutOfMemory};
 
+use def_wires::WireFault;
 use rt_base::{Memory, Name};
 use thiserror::Error;
 
@@ -61,7 +62,7 @@ pub enum BuildError {
     NoPin {
         name: Name,
     },
-    /// A statement of DEF names a layer that LEF hasn't.
+    /// A statement of DEF, or a box of the guides, names a layer that LEF hasn't.
     #[error("no layer {name}")]
     NoLayer {
         name: Name,
@@ -70,6 +71,16 @@ pub enum BuildError {
     #[error("two nets name the pin {name}")]
     PinTwice {
         name: Name,
+    },
+    /// The guides have an entry for a net that NETS hasn't.
+    #[error("no net {name}")]
+    NoNet {
+        name: Name,
+    },
+    /// Wiring of a net, or a via of VIAS, isn't read. The fault is never want of memory.
+    #[error("{fault}")]
+    Wiring {
+        fault: WireFault,
     },
     /// No TRACKS statement is used for this routing layer.
     #[error("layer {layer} has no tracks")]
@@ -92,5 +103,18 @@ impl From<Memory> for BuildError {
 
     fn from(_error: Memory) -> BuildError {
         BuildError::Memory
+    }
+}
+
+impl From<WireFault> for BuildError {
+    ghost use Rattle.build.specs.WireErrors.{wiring_error};
+
+    ghost from_gives = { λ fault e. e ≡ wiring_error fault };
+
+    fn from(fault: WireFault) -> BuildError {
+        match fault {
+            WireFault::Memory => BuildError::Memory,
+            fault => BuildError::Wiring { fault },
+        }
     }
 }

@@ -1,18 +1,10 @@
-//! From what LEF and DEF say to one design, or to the first reason why there is none.
+//! From what LEF, DEF and guides say to one design, or to the first reason why there is none.
 #![tactic(auto)]
 
-mod checks;
-mod copies;
 mod design;
 mod error;
+mod given;
 mod layer_names;
-mod level_tracks;
-mod limits;
-mod lookup;
-mod nets;
-mod pin_names;
-mod shapes;
-mod technology;
 mod track_lines;
 
 pub use design::build;

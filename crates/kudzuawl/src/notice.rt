@@ -7,18 +7,19 @@ use std::io::ErrorKind;
 const HELP: &[u8] = b"\
 Kudzuawl, a detailed router whose result is proved.
 
-  kudzuawl route LEF DEF GUIDE OUT JOURNAL
+  kudzuawl route LEF DEF GUIDE OUT JOURNAL [--via COST] [--tile SIDE]
 
 routes the nets of DEF on the layers and tracks of LEF and DEF. OUT becomes the routed DEF, JOURNAL
-the list of what was routed in which order, and the report goes to standard output. GUIDE is `-`:
-each net may run over the whole die.
+the list of what was routed in which order, and the report goes to standard output. GUIDE names the
+boxes that each net's wires stay in; with `-` each net may run over the whole die. A via costs as
+much as COST units of wire, by default 1000. SIDE is the side of a tile.
 
   kudzuawl --help
   kudzuawl --version
 
 Status 0: each net is routed; 1: all but the nets that the report names; 2: the command line is
-wrong; 3, 4: LEF or DEF is refused; 6: no design can be built; 7: a limit is passed; 8: a file can't
-be read; 9: an output can't be written; 10: memory ran out.
+wrong; 3, 4, 5: LEF, DEF or the guides are refused; 6: no design can be built; 7: a limit is passed;
+8: a file can't be read; 9: an output can't be written; 10: memory ran out.
 ";
 
 const VERSION: &[u8] = b"kudzuawl 0.1.0\n";

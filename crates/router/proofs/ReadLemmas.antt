@@ -1,6 +1,6 @@
 -- From what the readers answer to the outcome of the texts.
 use Rattle.std.proofs.Common.{◌≡◌, ◌≢◌, ◌⊎◌, inl, inr, ℕ, ◌<◌, ◌≤◌, Result, Ok, Err, IfSome, List, [], ◌∷◌, Option, Some, None, length, get_or, refl, sym, subst, ap, ◌∙◌, zero, suc, arith}
-use Rattle.std.specs.Prelude.{⊤, ℤ, All, AllPairs}
+use Rattle.std.specs.Prelude.{⊤, ℤ, unwrap_or, All, AllPairs}
 use Rattle.std.specs.List.{AllZip}
 use Rattle.track_graph.specs.declared.design.Net.{Net}
 use Rattle.track_graph.specs.Levels.{TrackSystem}
@@ -14,12 +14,18 @@ use Rattle.def_text.specs.declared.error.DefError.{DefError}
 use Rattle.def_text.specs.declared.error.DefError.TheVariants.{Memory as DefMemory}
 use Rattle.lef_text.specs.declared.error.LefError.{LefError}
 use Rattle.lef_text.specs.declared.error.LefError.TheVariants.{Memory as LefMemory}
+use Rattle.guide_text.specs.declared.guides.Guides.{Guides}
+use Rattle.guide_text.specs.declared.error.GuideError.{GuideError}
+use Rattle.guide_text.specs.declared.error.GuideError.TheVariants.{Memory as GuideMemory}
+use Rattle.guide_text.specs.Faults.{guide_faults}
+use Rattle.guide_text.specs.Guides.{guides as guides_form}
 use Rattle.build.specs.declared.error.BuildError.{BuildError}
 use Rattle.build.specs.declared.error.BuildError.TheVariants.{Memory as BuildMemory}
 use Rattle.router.specs.declared.refusal.Refusal.{Refusal}
-use Rattle.router.specs.declared.refusal.Refusal.TheVariants.{Words, LefBytes, DefBytes, Lef, Def, Build, Read, Write, Memory}
+use Rattle.router.specs.declared.refusal.Refusal.TheVariants.{Words, LefBytes, DefBytes, GuideBytes, Lef, Def, Guide, Build, Read, Write, Memory}
 use Rattle.router.specs.declared.source.Source.{Source}
-use Rattle.router.specs.Refusals.{of_lef, of_def, of_build}
+use Rattle.router.specs.declared.read.Texts.{Texts}
+use Rattle.router.specs.Refusals.{of_lef, of_def, of_guide, of_build}
 use Rattle.router.specs.declared.source.SourceFault.{SourceFault}
 use Rattle.rt_forms.specs.Lexeme.{lexemes}
 use Rattle.rt_forms.specs.Clauses.{IsRefused}
@@ -30,16 +36,17 @@ use Rattle.lef_text.specs.Faults.{lef_faults}
 use Rattle.lef_text.specs.Lef.{lef as lef_form}
 use Rattle.def_text.specs.Clauses.{Begins}
 use Rattle.def_text.specs.Texts.{units_form}
+use Rattle.build.specs.Inputs.{Input}
 use Rattle.build.specs.Refusals.{Gives, Refuses}
 use Rattle.build.specs.TrackLines.{default_tile_of}
-use Rattle.router.specs.Words.{FileNames}
-use Rattle.router.specs.Refusals.{lef_most, def_most}
-use Rattle.router.specs.Outcomes.{IsSource, IsDefRefusal, IsTextRefusal, IsTooLong, IsUncut, AreHeld, AreSources, SaysLef, SaysBoth, options_of, AreDesign}
+use Rattle.router.specs.Words.{CommandLine}
+use Rattle.router.specs.Refusals.{lef_most, def_most, guide_most}
+use Rattle.router.specs.Outcomes.{IsSource, IsTooLong, IsUncut, IsDefFileRefusal, IsDefRefusal, IsTextRefusal, SayBoth, IsGuideRefusal, AreGuidesOf, input_from, options_of, IsBuildRefusal, IsDesigned, IsFirstRefusal, AreHeld}
 use Rattle.router.specs.Outputs.{ShelfView}
 use Rattle.router.specs.Runs.{Cause}
 use Rattle.router.specs.Made.{IsReady}
-use Rattle.router.specs.Sources.{of_take, of_scan, IsSourceFault, IsLefFileCause, IsDefFileCause}
-use Rattle.router.proofs.RunLemmas.{risen_from}
+use Rattle.router.specs.Sources.{of_take, of_scan, IsSourceFault, SaysNoGuides, IsLefFileCause, IsDefFileCause, IsGuideFileCause, IsGuideCause}
+use Rattle.router.proofs.RunLemmas.{risen_from, risen_to}
 use Rattle.rt_base.specs.declared.scan.ScanError.{ScanError}
 use Rattle.rt_base.specs.declared.scan.ScanError.TheVariants.{UnclosedQuote, NotText, Memory as ScanMemory}
 use Rattle.rt_base.specs.Scan.{Reads, answer_of, IsCutInto}
@@ -89,47 +96,109 @@ unread_def before after name r h risen = elim h [
   | inr is ↦ rw is (risen, refl)
 ]
 
+pub unread_guide : (before after : ShelfView) (name : List ℕ) (r : Refusal) → (r ≡ Memory) ⊎ (r ≡ Read name) → HasRisen before.faults after.faults → IsGuideFileCause before after name r
+unread_guide before after name r h risen = elim h [
+  | inl is ↦ rw is tt
+  | inr is ↦ rw is (risen, refl)
+]
+
 -- ---- causes
 
 -- the file of LEF decides
-pub lef_cause : (before after : ShelfView) (names : FileNames) (name : List ℕ) (r : Refusal) → name ≡ names.lef → IsLefFileCause before after name r → r ≢ Memory → Cause before after names r
-lef_cause before after names name (Words e) is h ne = absurd h
-lef_cause before after names name (LefBytes read) is h ne = inl (rw is at h)
-lef_cause before after names name (DefBytes read) is h ne = absurd h
-lef_cause before after names name (Lef e) is h ne = inl (rw is at h)
-lef_cause before after names name (Def e) is h ne = absurd h
-lef_cause before after names name (Build e) is h ne = absurd h
-lef_cause before after names name (Read file) is h ne = (h.0, inl (h.1 ∙ is))
-lef_cause before after names name (Write file) is h ne = absurd h
-lef_cause before after names name Memory is h ne = absurd (ne refl)
-
--- LEF's file is read with these names and the same files
-same_source : (before mid : ShelfView) (name name' : List ℕ) (most : ℕ) (s : Source) → name ≡ name' → mid.files ≡ before.files → IsSource mid.files name most s → IsSource before.files name' most s
-same_source before mid name name' most s is same h = rw (is, same) at h
+pub lef_cause : (before after : ShelfView) (asked : CommandLine) (name : List ℕ) (r : Refusal) → name ≡ asked.lef → IsLefFileCause before after name r → r ≢ Memory → Cause before after asked r
+lef_cause before after asked name (Words e) is h ne = absurd h
+lef_cause before after asked name (LefBytes read) is h ne = inl (rw is at h)
+lef_cause before after asked name (DefBytes read) is h ne = absurd h
+lef_cause before after asked name (GuideBytes read) is h ne = absurd h
+lef_cause before after asked name (Lef e) is h ne = inl (rw is at h)
+lef_cause before after asked name (Def e) is h ne = absurd h
+lef_cause before after asked name (Guide e) is h ne = absurd h
+lef_cause before after asked name (Build e) is h ne = absurd h
+lef_cause before after asked name (Read file) is h ne = (h.0, inl (h.1 ∙ is))
+lef_cause before after asked name (Write file) is h ne = absurd h
+lef_cause before after asked name Memory is h ne = absurd (ne refl)
 
 -- the file of DEF decides
-pub def_cause : (before mid after : ShelfView) (names : FileNames) (lef_name def_name : List ℕ) (lef : Source) (r : Refusal) → lef_name ≡ names.lef → def_name ≡ names.def → IsSource before.files lef_name lef_most lef → mid.files ≡ before.files → before.faults ≤ mid.faults → IsDefFileCause mid after def_name r → r ≢ Memory → Cause before after names r
-def_cause before mid after names lef_name def_name lef (Words e) is is' source same count h ne = absurd h
-def_cause before mid after names lef_name def_name lef (LefBytes read) is is' source same count h ne = absurd h
-def_cause before mid after names lef_name def_name lef (DefBytes read) is is' source same count h ne = inr (inl (record { lef = lef; cut = rw is at source; refused = rw (is', same) at h }))
-def_cause before mid after names lef_name def_name lef (Lef e) is is' source same count h ne = absurd h
-def_cause before mid after names lef_name def_name lef (Def e) is is' source same count h ne = inr (inl (record { lef = lef; cut = rw is at source; refused = rw (is', same) at h }))
-def_cause before mid after names lef_name def_name lef (Build e) is is' source same count h ne = absurd h
-def_cause before mid after names lef_name def_name lef (Read file) is is' source same count h ne = (risen_from before.faults mid.faults after.faults count h.0, inr (h.1 ∙ is'))
-def_cause before mid after names lef_name def_name lef (Write file) is is' source same count h ne = absurd h
-def_cause before mid after names lef_name def_name lef Memory is is' source same count h ne = absurd (ne refl)
+behind_lef : (before : ShelfView) (asked : CommandLine) (lef : Source) (r : Refusal) → IsSource before.files asked.lef lef_most lef → IsDefFileRefusal before.files asked.def r → IsFirstRefusal before.files asked r
+behind_lef before asked lef r cut h = inr (lef, cut, inl h)
 
--- both files are cut
-pub sources_of : (told mid : Option Files) (names : FileNames) (lef_name def_name : List ℕ) (lef def : Source) → lef_name ≡ names.lef → def_name ≡ names.def → IsSource told lef_name lef_most lef → mid ≡ told → IsSource mid def_name def_most def → AreSources told names lef def
-sources_of told mid names lef_name def_name lef def is is' source same source' = record {
-  lef_source = subst (λ n. IsSource told n lef_most lef) is source;
-  def_source = subst (λ n. IsSource told n def_most def) is' (subst (λ t. IsSource t def_name def_most def) same source');
+pub def_cause : (before mid after : ShelfView) (asked : CommandLine) (lef_name def_name : List ℕ) (lef : Source) (r : Refusal) → lef_name ≡ asked.lef → def_name ≡ asked.def → IsSource before.files lef_name lef_most lef → mid.files ≡ before.files → before.faults ≤ mid.faults → IsDefFileCause mid after def_name r → r ≢ Memory → Cause before after asked r
+def_cause before mid after asked lef_name def_name lef (Words e) is is' source same count h ne = absurd h
+def_cause before mid after asked lef_name def_name lef (LefBytes read) is is' source same count h ne = absurd h
+def_cause before mid after asked lef_name def_name lef (DefBytes read) is is' source same count h ne = behind_lef before asked lef (DefBytes read) (rw is at source) (rw (is', same) at h)
+def_cause before mid after asked lef_name def_name lef (GuideBytes read) is is' source same count h ne = absurd h
+def_cause before mid after asked lef_name def_name lef (Lef e) is is' source same count h ne = absurd h
+def_cause before mid after asked lef_name def_name lef (Def e) is is' source same count h ne = behind_lef before asked lef (Def e) (rw is at source) (rw (is', same) at h)
+def_cause before mid after asked lef_name def_name lef (Guide e) is is' source same count h ne = absurd h
+def_cause before mid after asked lef_name def_name lef (Build e) is is' source same count h ne = absurd h
+def_cause before mid after asked lef_name def_name lef (Read file) is is' source same count h ne = (risen_from before.faults mid.faults after.faults count h.0, inr (inl (h.1 ∙ is')))
+def_cause before mid after asked lef_name def_name lef (Write file) is is' source same count h ne = absurd h
+def_cause before mid after asked lef_name def_name lef Memory is is' source same count h ne = absurd (ne refl)
+
+-- LEF and DEF are cut, as the words name them
+pub record AreCut (told : Option Files) (asked : CommandLine) (lef def : Source) : Type 0 where
+  pub lef_cut : IsSource told asked.lef lef_most lef
+  pub def_cut : IsSource told asked.def def_most def
+
+pub sources_of : (told mid : Option Files) (asked : CommandLine) (lef_name def_name : List ℕ) (lef def : Source) → lef_name ≡ asked.lef → def_name ≡ asked.def → IsSource told lef_name lef_most lef → mid ≡ told → IsSource mid def_name def_most def → AreCut told asked lef def
+sources_of told mid asked lef_name def_name lef def is is' source same source' = record {
+  lef_cut = subst (λ n. IsSource told n lef_most lef) is source;
+  def_cut = subst (λ n. IsSource told n def_most def) is' (subst (λ t. IsSource t def_name def_most def) same source');
 }
 
 -- the texts decide
-pub text_cause : (before after : ShelfView) (names : FileNames) (lef def : Source) (r : Refusal) → AreSources before.files names lef def → (r ≢ Memory → IsTextRefusal lef def r) → r ≢ Memory → Cause before after names r
-text_cause before after names lef def (Read file) sources h ne = absurd (h ne)
-text_cause before after names lef def r sources h ne = inr (inr (record { lef = lef; def = def; sources = sources; refused = h ne }))
+pub text_cause : (before after : ShelfView) (asked : CommandLine) (lef def : Source) (r : Refusal) → AreCut before.files asked lef def → (r ≢ Memory → IsTextRefusal lef def r) → r ≢ Memory → Cause before after asked r
+text_cause before after asked lef def (Read file) cut h ne = absurd (h ne)
+text_cause before after asked lef def r cut h ne = inr (lef, cut.lef_cut, inr (def, cut.def_cut, inl (h ne)))
+
+-- a count that never falls
+pub grown : (a b c : ℕ) → a ≤ b → b ≤ c → a ≤ c
+grown a b c h k = omega arith
+
+-- the guides decide
+behind_texts : (before : ShelfView) (asked : CommandLine) (lef def : Source) (said : Texts) (r : Refusal) → AreCut before.files asked lef def → SayBoth lef def said → IsGuideRefusal before.files asked.guide r → IsFirstRefusal before.files asked r
+behind_texts before asked lef def said r cut say h = inr (lef, cut.lef_cut, inr (def, cut.def_cut, inr (said, say, inl h)))
+
+file_cause : (before mid after : ShelfView) (asked : CommandLine) (lef def : Source) (said : Texts) (name : List ℕ) (r : Refusal) → Some name ≡ asked.guide → AreCut before.files asked lef def → SayBoth lef def said → mid.files ≡ before.files → before.faults ≤ mid.faults → IsGuideFileCause mid after name r → r ≢ Memory → Cause before after asked r
+file_cause before mid after asked lef def said name (Words e) is cut say same count h ne = absurd h
+file_cause before mid after asked lef def said name (LefBytes read) is cut say same count h ne = absurd h
+file_cause before mid after asked lef def said name (DefBytes read) is cut say same count h ne = absurd h
+file_cause before mid after asked lef def said name (GuideBytes read) is cut say same count h ne = behind_texts before asked lef def said (GuideBytes read) cut say (subst (λ g. IsGuideRefusal before.files g (GuideBytes read)) is (rw same at h))
+file_cause before mid after asked lef def said name (Lef e) is cut say same count h ne = absurd h
+file_cause before mid after asked lef def said name (Def e) is cut say same count h ne = absurd h
+file_cause before mid after asked lef def said name (Guide e) is cut say same count h ne = behind_texts before asked lef def said (Guide e) cut say (subst (λ g. IsGuideRefusal before.files g (Guide e)) is (rw same at h))
+file_cause before mid after asked lef def said name (Build e) is cut say same count h ne = absurd h
+file_cause before mid after asked lef def said name (Read file) is cut say same count h ne = (risen_from before.faults mid.faults after.faults count h.0, inr (inr (sym is ∙ ap Some (sym h.1))))
+file_cause before mid after asked lef def said name (Write file) is cut say same count h ne = absurd h
+file_cause before mid after asked lef def said name Memory is cut say same count h ne = absurd (ne refl)
+
+pub guide_cause : (before mid after : ShelfView) (asked : CommandLine) (lef def : Source) (said : Texts) (guide : Option (List ℕ)) (r : Refusal) → guide ≡ asked.guide → AreCut before.files asked lef def → SayBoth lef def said → mid.files ≡ before.files → before.faults ≤ mid.faults → (r ≢ Memory → IsGuideCause mid after guide r) → r ≢ Memory → Cause before after asked r
+guide_cause before mid after asked lef def said None r is cut say same count h ne = absurd (h ne)
+guide_cause before mid after asked lef def said (Some name) r is cut say same count h ne = file_cause before mid after asked lef def said name r is cut say same count (h ne) ne
+
+-- the guides were read of the same files
+pub guides_read : (told mid : Option Files) (guide : Option (List ℕ)) (guides : Option Guides) (asked : CommandLine) → guide ≡ asked.guide → mid ≡ told → AreGuidesOf mid guide guides → AreGuidesOf told asked.guide guides
+guides_read told mid guide guides asked is same h = subst (λ g. AreGuidesOf told g guides) is (subst (λ t. AreGuidesOf t guide guides) same h)
+
+-- the files give the design
+pub designed_of : (told : Option Files) (asked : CommandLine) (lef def : Source) (said : Texts) (guides : Option Guides) (d : Design) → AreCut told asked lef def → SayBoth lef def said → AreGuidesOf told asked.guide guides → Gives (input_from def said guides) (options_of asked said) d → IsDesigned told asked def.text d
+designed_of told asked lef def said guides d cut say are gives = record {
+  lef = lef;
+  lef_cut = cut.lef_cut;
+  def = def;
+  def_cut = cut.def_cut;
+  said = said;
+  say = say;
+  guides = guides;
+  are_guides = are;
+  gives = gives;
+  text_is = refl;
+}
+
+-- the design decides
+pub build_cause : (before after : ShelfView) (asked : CommandLine) (lef def : Source) (said : Texts) (guides : Option Guides) (r : Refusal) → AreCut before.files asked lef def → SayBoth lef def said → AreGuidesOf before.files asked.guide guides → (r ≢ Memory → IsBuildRefusal asked def said guides r) → r ≢ Memory → Cause before after asked r
+build_cause before after asked lef def said guides (Read file) cut say are h ne = absurd (h ne)
+build_cause before after asked lef def said guides r cut say are h ne = inr (lef, cut.lef_cut, inr (def, cut.def_cut, inr (said, say, inr (guides, are, h ne))))
 
 -- ---- texts
 
@@ -137,16 +206,9 @@ text_cause before after names lef def r sources h ne = inr (inr (record { lef = 
 pub lef_refused : (lef def : Source) (units : ℕ) (e : LefError) → Begins units_form (lexemes def.text def.tokens) units → IsRefused lef_faults (lef_form units) lef.text lef.tokens e → IsTextRefusal lef def (Lef e)
 lef_refused lef def units e begins refused = (units, begins, refused)
 
-same_options : (l : LefValue) (d : DefValue) (tile : ℤ) → tile ≡ default_tile_of l d → (let o : Options = record { via = 1000; tile = tile; rips = 0 } in o) ≡ options_of l d
-same_options l d tile is = ap (λ (t : ℤ). let o : Options = record { via = 1000; tile = t; rips = 0 } in o) is
-
--- the design is refused
-pub build_refused : (lef def : Source) (units : ℕ) (l : LefValue) (d : DefValue) (e : BuildError) (tile : ℤ) → tile ≡ default_tile_of l d → SaysBoth lef def units l d → Refuses l d (record { via = 1000; tile = tile; rips = 0 }) e → IsTextRefusal lef def (Build e)
-build_refused lef def units l d e tile is says refused = (units, l, d, says, subst (λ o. Refuses l d o e) (same_options l d tile is) refused)
-
--- the design of the texts
-pub design_of_texts : (lef def : Source) (units : ℕ) (l : LefValue) (d : DefValue) (design : Design) (tile : ℤ) → tile ≡ default_tile_of l d → SaysBoth lef def units l d → Gives l d (record { via = 1000; tile = tile; rips = 0 }) design → AreDesign lef def design
-design_of_texts lef def units l d design tile is says gives = record { units = units; lef_says = l; def_says = d; say = says; gives = subst (λ o. Gives l d o design) (same_options l d tile is) gives }
+-- the words' tile, or that of the texts
+pub chosen_tile : (asked : CommandLine) (said : Texts) (tile : ℤ) → tile ≡ unwrap_or asked.tile (default_tile_of said.lef said.def) → (let o : Options = record { via = asked.via; tile = tile; rips = 0 } in o) ≡ options_of asked said
+chosen_tile asked said tile is = ap (λ (t : ℤ). let o : Options = record { via = asked.via; tile = t; rips = 0 } in o) is
 
 -- a fault of a reader that isn't want of memory is a refusal of the texts
 pub def_refusal : (lef def : Source) (e : DefError) → (e ≢ DefMemory → IsDefRefusal lef def e) → of_def e ≢ Memory → IsTextRefusal lef def (of_def e)
@@ -157,9 +219,43 @@ pub lef_refusal : (lef def : Source) (e : LefError) → (e ≢ LefMemory → IsT
 lef_refusal lef def LefMemory h ne = absurd (ne refl)
 lef_refusal lef def e h ne = h (λ is. cc)
 
-pub build_refusal : (lef def : Source) (e : BuildError) → (e ≢ BuildMemory → IsTextRefusal lef def (Build e)) → of_build e ≢ Memory → IsTextRefusal lef def (of_build e)
-build_refusal lef def BuildMemory h ne = absurd (ne refl)
-build_refusal lef def e h ne = h (λ is. cc)
+pub guide_refusal : (s : Source) (e : GuideError) → (e ≢ GuideMemory → IsRefused guide_faults guides_form s.text s.tokens e) → of_guide e ≢ Memory → SaysNoGuides s (of_guide e)
+guide_refusal s GuideMemory h ne = absurd (ne refl)
+guide_refusal s e h ne = h (λ is. cc)
+
+pub build_refusal : (asked : CommandLine) (def : Source) (said : Texts) (guides : Option Guides) (e : BuildError) → (e ≢ BuildMemory → Refuses (input_from def said guides) (options_of asked said) e) → of_build e ≢ Memory → IsBuildRefusal asked def said guides (of_build e)
+build_refusal asked def said guides BuildMemory h ne = absurd (ne refl)
+build_refusal asked def said guides e h ne = h (λ is. cc)
+
+-- ---- guides
+
+-- the file of guides decides
+pub take_cause : (before mid after : ShelfView) (name : List ℕ) (r : Refusal) → IsGuideFileCause before mid name r → mid.faults ≤ after.faults → r ≢ Memory → IsGuideFileCause before after name r
+take_cause before mid after name (Words e) h count ne = h
+take_cause before mid after name (LefBytes read) h count ne = h
+take_cause before mid after name (DefBytes read) h count ne = h
+take_cause before mid after name (GuideBytes read) h count ne = h
+take_cause before mid after name (Lef e) h count ne = h
+take_cause before mid after name (Def e) h count ne = h
+take_cause before mid after name (Guide e) h count ne = h
+take_cause before mid after name (Build e) h count ne = h
+take_cause before mid after name (Read file) h count ne = (risen_to before.faults mid.faults after.faults h.0 count, h.1)
+take_cause before mid after name (Write file) h count ne = h
+take_cause before mid after name Memory h count ne = h
+
+-- the text of guides decides
+pub says_cause : (before after : ShelfView) (name : List ℕ) (s : Source) (r : Refusal) → IsSource before.files name guide_most s → SaysNoGuides s r → IsGuideFileCause before after name r
+says_cause before after name s (Words e) cut h = absurd h
+says_cause before after name s (LefBytes read) cut h = absurd h
+says_cause before after name s (DefBytes read) cut h = absurd h
+says_cause before after name s (GuideBytes read) cut h = absurd h
+says_cause before after name s (Lef e) cut h = absurd h
+says_cause before after name s (Def e) cut h = absurd h
+says_cause before after name s (Guide e) cut h = inr (record { source = s; cut = cut; refused = h })
+says_cause before after name s (Build e) cut h = absurd h
+says_cause before after name s (Read file) cut h = absurd h
+says_cause before after name s (Write file) cut h = absurd h
+says_cause before after name s Memory cut h = absurd h
 
 -- ---- closes
 
@@ -192,18 +288,22 @@ closes_of R text said nets close zip closes = record {
 }
 
 -- a design that was built is ready to be routed
-pub ready_of : (lef : LefValue) (def : DefValue) (tile : ℤ) (text : List ℕ) (d : Design) → IsDesign d → IsDesignOf lef def (record { via = 1000; tile = tile; rips = 0 }) d → DefCloses (length text) def.nets → IsReady text d
-ready_of lef def tile text d design built closes = record {
+pub ready_of : (i : Input) (o : Options) (text : List ℕ) (d : Design) → o.rips ≡ 0 → IsDesign d → IsDesignOf i o d → DefCloses (length text) i.def.nets → IsReady text d
+ready_of i o text d none design built closes = record {
   design = design;
-  no_rips = ap (λ (o : Options). o.rips) built.options;
-  closes = closes_of _ text def.nets d.nets (λ a b h. h.close) built.nets closes;
+  no_rips = ap (λ (p : Options). p.rips) built.options ∙ none;
+  closes = closes_of _ text i.def.nets d.nets (λ a b h. h.close) built.nets closes;
 }
 
 -- no fault comes while LEF is taken
-pub lef_count : (told : Option Files) (names : FileNames) (name : List ℕ) (a b : ℕ) → name ≡ names.lef → AreHeld told names → (IsHeld told name → b ≡ a) → b ≡ a
-lef_count told names name a b is held count = count (subst (λ n. IsHeld told n) (sym is) held.lef_held)
+pub lef_count : (told : Option Files) (asked : CommandLine) (name : List ℕ) (a b : ℕ) → name ≡ asked.lef → AreHeld told asked → (IsHeld told name → b ≡ a) → b ≡ a
+lef_count told asked name a b is held count = count (subst (λ n. IsHeld told n) (sym is) held.lef_held)
 
 -- nor while DEF is
-pub both_counts : (told mid : Option Files) (names : FileNames) (lef_name def_name : List ℕ) (a b c : ℕ) → lef_name ≡ names.lef → def_name ≡ names.def → mid ≡ told → AreHeld told names → (IsHeld told lef_name → b ≡ a) → (IsHeld mid def_name → c ≡ b) → c ≡ a
-both_counts told mid names lef_name def_name a b c is is' same held first second =
-    second (subst (λ n. IsHeld mid n) (sym is') (subst (λ t. IsHeld t names.def) (sym same) held.def_held)) ∙ first (subst (λ n. IsHeld told n) (sym is) held.lef_held)
+pub both_counts : (told mid : Option Files) (asked : CommandLine) (lef_name def_name : List ℕ) (a b c : ℕ) → lef_name ≡ asked.lef → def_name ≡ asked.def → mid ≡ told → AreHeld told asked → (IsHeld told lef_name → b ≡ a) → (IsHeld mid def_name → c ≡ b) → c ≡ a
+both_counts told mid asked lef_name def_name a b c is is' same held first second =
+    second (subst (λ n. IsHeld mid n) (sym is') (subst (λ t. IsHeld t asked.def) (sym same) held.def_held)) ∙ first (subst (λ n. IsHeld told n) (sym is) held.lef_held)
+
+-- nor while the guides are
+pub guide_count : (told mid : Option Files) (asked : CommandLine) (guide : Option (List ℕ)) (b c : ℕ) → guide ≡ asked.guide → mid ≡ told → AreHeld told asked → (IfSome guide (IsHeld mid) → c ≡ b) → c ≡ b
+guide_count told mid asked guide b c is same held count = count (subst (λ t. IfSome guide (IsHeld t)) (sym same) (subst (λ g. IfSome g (IsHeld told)) (sym is) held.guide_held))

@@ -1,37 +1,80 @@
--- Names that stand twice: the search name by name.
-use Rattle.std.proofs.Common.{◌≡◌, ℕ, suc, ◌+◌, ◌<◌, ◌≤◌, List, [], ◌∷◌, ◌++◌, length, map, take, drop, get_or, refl, sym, ap, ◌∙◌, Option, Some, None, true, false, cond, bytes_eq, arith, ◌||◌, String, string_bytes, add-one, drop-cons, subst, Bool}
-use Rattle.std.specs.Prelude.{if◌then◌else◌}
-use Rattle.std.specs.List.{list_any}
+-- Words that are looked for one by one: where the search ends, and how it goes on.
+use Rattle.std.proofs.Common.{◌≡◌, ◌⊎◌, inl, inr, ℕ, zero, suc, ◌+◌, ◌-◌, ◌<◌, ◌≤◌, List, [], ◌∷◌, length, get_or, refl, sym, subst, ap, ◌∙◌, Option, Some, None, Ok, ℤ, pos, Bool, true, false, String, string_bytes, arith}
+use Rattle.std.specs.Prelude.{if◌then◌else◌, ◌||◌, option_map, unwrap_or}
+use Rattle.std.specs.List.{find, list_any, range_with_len}
 use Rattle.std.specs.Global.{Global}
-use Rattle.std.proofs.lemmas.List.{take_more, drop_all, get_or-map, length-map, take-map}
-use Rattle.router.specs.Words.{word_texts, first_repeat}
+use Rattle.std.proofs.lemmas.Bool.{cases_lt, lt-ltb}
+use Rattle.std.proofs.lemmas.List.{get_or-map, length-map}
+use Rattle.router.specs.declared.words.Sought.TheVariants.{Misfit}
+use Rattle.router.specs.declared.words.Choice.TheVariants.{Via, Tile}
+use Rattle.router.specs.declared.words.WordsFault.{WordsFault}
+use Rattle.router.specs.Words.{CommandLine, word_texts, word, is_sought, first_word, fault_of, chosen, guide_of, said_by, unless_fault, command_of}
 
--- what is looked for among the names, and among their bytes
-pub any_word : (w : List ℕ) (names : List (String Global)) → list_any (λ s. bytes_eq w (string_bytes s)) names ≡ list_any (bytes_eq w) (word_texts names)
-any_word w [] = refl
-any_word w (s ∷ names) = ap (λ b. bytes_eq w (string_bytes s) || b) (any_word w names)
+-- the numbers from m on, where there is one below n
+numbers_more : (m n : ℕ) → m < n → range_with_len m (n - m) ≡ m ∷ range_with_len (m + 1) (n - (m + 1))
+numbers_more m n h = let e : n - m ≡ suc (n - (m + 1)) = omega arith in rw e refl
 
--- the search from place i on goes on behind it, or ends there
-pub repeat_at : (n i : ℕ) (ws : List (List ℕ)) → i < length ws → first_repeat n (take i ws) (drop i ws) ≡ (if list_any (bytes_eq (get_or ws i [])) (take i ws) then Some n else first_repeat (n + 1) (take (i + 1) ws) (drop (i + 1) ws))
-repeat_at n i ws h = let e : i + 1 ≡ suc i = omega arith in rw (drop-cons ws i [], take_more ws i [] h, e) refl
+numbers_end : (m n : ℕ) → n ≤ m → range_with_len m (n - m) ≡ []
+numbers_end m n h = let e : n - m ≡ 0 = omega arith in rw e refl
 
--- a name that stands earlier ends the search
-pub repeat_found : (n i : ℕ) (ws : List (List ℕ)) → i < length ws → list_any (bytes_eq (get_or ws i [])) (take i ws) ≡ true → first_repeat n (take i ws) (drop i ws) ≡ Some n
-repeat_found n i ws h found = repeat_at n i ws h ∙ ap (λ (b : Bool). if b then Some n else first_repeat (n + 1) (take (i + 1) ws) (drop (i + 1) ws)) found
+-- one that passes ends the search
+pub any_here : (p : ℕ → Bool) (m n : ℕ) → m < n → p m ≡ true → list_any p (range_with_len m (n - m)) ≡ true
+any_here p m n h passes = ap (list_any p) (numbers_more m n h) ∙ ap (λ (b : Bool). b || list_any p (range_with_len (m + 1) (n - (m + 1)))) passes
 
--- one that doesn't lets it go on
-pub repeat_on : (n i : ℕ) (ws : List (List ℕ)) → i < length ws → list_any (bytes_eq (get_or ws i [])) (take i ws) ≡ false → first_repeat n (take i ws) (drop i ws) ≡ first_repeat (n + 1) (take (i + 1) ws) (drop (i + 1) ws)
-repeat_on n i ws h missed = repeat_at n i ws h ∙ ap (λ (b : Bool). if b then Some n else first_repeat (n + 1) (take (i + 1) ws) (drop (i + 1) ws)) missed
+pub find_here : (p : ℕ → Bool) (m n : ℕ) → m < n → p m ≡ true → find p (range_with_len m (n - m)) ≡ Some m
+find_here p m n h passes = ap (find p) (numbers_more m n h) ∙ ap (λ (b : Bool). if b then Some m else find p (range_with_len (m + 1) (n - (m + 1)))) passes
 
-pub repeat_end : (n i : ℕ) (ws : List (List ℕ)) → length ws ≤ i → first_repeat n (take i ws) (drop i ws) ≡ None
-repeat_end n i ws h = rw (drop_all i ws h) refl
+-- one that fails lets it go on
+pub any_on : (p : ℕ → Bool) (m n : ℕ) → m < n → p m ≡ false → list_any p (range_with_len m (n - m)) ≡ list_any p (range_with_len (m + 1) (n - (m + 1)))
+any_on p m n h fails = ap (list_any p) (numbers_more m n h) ∙ ap (λ (b : Bool). b || list_any p (range_with_len (m + 1) (n - (m + 1)))) fails
 
--- the words have the bytes of their texts
-pub word_get : (names : List (String Global)) (i : ℕ) (d : String Global) → i < length names → string_bytes (get_or names i d) ≡ get_or (word_texts names) i []
-word_get names i d h = sym (get_or-map string_bytes names i d [] h)
+pub find_on : (p : ℕ → Bool) (m n : ℕ) → m < n → p m ≡ false → find p (range_with_len m (n - m)) ≡ find p (range_with_len (m + 1) (n - (m + 1)))
+find_on p m n h fails = ap (find p) (numbers_more m n h) ∙ ap (λ (b : Bool). if b then Some m else find p (range_with_len (m + 1) (n - (m + 1)))) fails
 
-pub word_count : (names : List (String Global)) → length (word_texts names) ≡ length names
-word_count names = length-map names string_bytes
+-- behind the last number nothing is found
+pub any_end : (p : ℕ → Bool) (m n : ℕ) → n ≤ m → list_any p (range_with_len m (n - m)) ≡ false
+any_end p m n h = ap (list_any p) (numbers_end m n h)
 
-pub earlier_words : (w : List ℕ) (names : List (String Global)) (i : ℕ) → list_any (λ s. bytes_eq w (string_bytes s)) (take i names) ≡ list_any (bytes_eq w) (take i (word_texts names))
-earlier_words w names i = any_word w (take i names) ∙ ap (list_any (bytes_eq w)) (sym (take-map string_bytes i names))
+pub find_end : (p : ℕ → Bool) (m n : ℕ) → n ≤ m → find p (range_with_len m (n - m)) ≡ None
+find_end p m n h = ap (find p) (numbers_end m n h)
+
+-- where nothing is found no number passes
+find_cases : {X : Type 0} (b : Bool) (x : X) (r : Option X) → (if b then Some x else r) ≡ None → (b ≡ false) × (r ≡ None)
+find_cases true x r h = cc
+find_cases false x r h = (refl, h)
+
+find_none : (p : ℕ → Bool) (a k n : ℕ) → find p (range_with_len a k) ≡ None → a ≤ n → n < a + k → p n ≡ true → ⊥
+find_none p a zero n h low high passes = absurd (omega arith)
+find_none p a (suc k) n h low high passes =
+    let parts = find_cases (p a) a (find p (range_with_len (a + 1) k)) h in
+    elim (cases_lt a n) [
+      | inl above ↦ find_none p (a + 1) k n parts.1 (omega arith) (omega arith) passes
+      | inr below ↦
+          let same : n ≡ a = omega arith in
+          let fails : p n ≡ false = subst (λ m. p m ≡ false) (sym same) parts.0 in
+          cc
+    ]
+
+-- a word is missing behind fewer than six
+missing : (words : List (List ℕ)) (n : ℕ) → length words < n → n < 7 → is_sought Misfit words n ≡ true
+missing words n behind below = rw (lt-ltb (length words) n behind, lt-ltb n 7 below) refl
+
+-- a command line that fits has its six words
+pub six_words : (words : List (String Global)) → first_word Misfit (word_texts words) ≡ None → 6 ≤ length words
+six_words words h = elim (cases_lt (length words) 6) [
+  | inl short ↦
+      let count : length (word_texts words) ≡ length words = length-map words string_bytes in
+      absurd (find_none (is_sought Misfit (word_texts words)) 1 (length (word_texts words) + 1) (length words + 1) h (omega arith) (omega (arith, count)) (missing (word_texts words) (length words + 1) (omega (arith, count)) (omega arith)))
+  | inr long ↦ long
+]
+
+-- word n has the bytes of its text
+pub word_get : (words : List (String Global)) (i n : ℕ) (d : String Global) → n ≡ i + 1 → i < length words → string_bytes (get_or words i d) ≡ word (word_texts words) n
+word_get words i n d e h = let i' : n - 1 ≡ i = omega (arith, e) in rw i' (sym (get_or-map string_bytes words i d [] h))
+
+-- what was read of a command line without a fault is what it says
+pub says_line : (words : List (List ℕ)) (lef def guide out journal : List ℕ) (via : ℕ) (tile : Option ℤ) → None ≡ fault_of words → lef ≡ word words 2 → def ≡ word words 3 → guide ≡ word words 4 → out ≡ word words 5 → journal ≡ word words 6 → via ≡ unwrap_or (chosen Via words) 1000 → tile ≡ option_map pos (chosen Tile words) → command_of words ≡ Ok (record { lef = lef; def = def; guide = guide_of guide; out = out; journal = journal; via = via; tile = tile })
+says_line words lef def guide out journal via tile fault a b g d e f h =
+    let line : said_by words ≡ (let l : CommandLine = record { lef = lef; def = def; guide = guide_of guide; out = out; journal = journal; via = via; tile = tile } in l) =
+    (λ i. record { lef = sym a i; def = sym b i; guide = guide_of (sym g i); out = sym d i; journal = sym e i; via = sym f i; tile = sym h i }) in
+    ap (λ (r : Option WordsFault). unless_fault r (said_by words)) (sym fault) ∙ ap Ok line

@@ -10,15 +10,19 @@ use Rattle.lef_text.specs.declared.error.What.{What}
 use Rattle.lef_text.specs.declared.error.What.TheVariants.{Direction, Width, Spacing}
 use Rattle.def_text.specs.declared.error.DefError.{DefError}
 use Rattle.def_text.specs.declared.error.DefError.TheVariants as def
+use Rattle.guide_text.specs.declared.error.GuideError.{GuideError}
+use Rattle.guide_text.specs.declared.error.GuideError.TheVariants as guide
+use Rattle.def_wires.specs.declared.error.WireFault.{WireFault}
+use Rattle.def_wires.specs.declared.error.WireFault.TheVariants as wire
 use Rattle.build.specs.declared.error.BuildError.{BuildError}
 use Rattle.build.specs.declared.error.BuildError.TheVariants as build
 use Rattle.build.specs.declared.error.Limited.{Limited}
 use Rattle.build.specs.declared.error.Limited.TheVariants.{RoutingLayers, UsableVias, Tracks, Nets, FixedShapes, Coordinate, Entries, Tiles, TileShapes}
 use Rattle.router.specs.declared.words.WordsFault.{WordsFault}
-use Rattle.router.specs.declared.words.WordsFault.TheVariants.{Shape, SameName}
+use Rattle.router.specs.declared.words.WordsFault.TheVariants.{Shape, Twice, Number, SameName}
 use Rattle.router.specs.declared.refusal.Refusal.{Refusal}
-use Rattle.router.specs.declared.refusal.Refusal.TheVariants.{Words, LefBytes, DefBytes, Lef, Def, Build, Read, Write, Memory}
-use Rattle.router.specs.Refusals.{status_of, lef_most, def_most}
+use Rattle.router.specs.declared.refusal.Refusal.TheVariants.{Words, LefBytes, DefBytes, GuideBytes, Lef, Def, Guide, Build, Read, Write, Memory}
+use Rattle.router.specs.Refusals.{status_of, lef_most, def_most, guide_most}
 
 -- a kind and a number, a name, or both
 abbrev pub with_number : List ℕ → ℕ → List ℕ
@@ -38,6 +42,8 @@ with_numbers kind m n = with_number (with_number kind m) n
 
 abbrev pub words_text : WordsFault → List ℕ
 words_text (Shape word) = with_number (codes "shape") word
+words_text (Twice word) = with_number (codes "twice") word
+words_text (Number word) = with_number (codes "number") word
 words_text (SameName word) = with_number (codes "same-name") word
 
 abbrev pub scan_text : ScanError → List ℕ
@@ -85,6 +91,26 @@ def_text (def.Missing what) = with_name (codes "missing") what
 def_text (def.NotYet line) = with_number (codes "not-yet") line
 def_text def.Memory = codes "memory"
 
+abbrev pub guide_text : GuideError → List ℕ
+guide_text (guide.Scan e) = scan_text e
+guide_text (guide.Expected line) = with_number (codes "expected") line
+guide_text (guide.Number line) = with_number (codes "number") line
+guide_text (guide.EmptyBox line) = with_number (codes "empty-box") line
+guide_text (guide.Twice line name) = with_number_name (codes "twice") line name
+guide_text (guide.Unended line) = with_number (codes "unended") line
+guide_text guide.Memory = codes "memory"
+
+abbrev pub wire_text : WireFault → List ℕ
+wire_text (wire.Expected line) = with_number (codes "expected") line
+wire_text (wire.Number line) = with_number (codes "number") line
+wire_text (wire.NoSuchLayer line) = with_number (codes "no-such-layer") line
+wire_text (wire.NoSuchVia line) = with_number (codes "no-such-via") line
+wire_text (wire.FirstStar line) = with_number (codes "first-star") line
+wire_text (wire.Diagonal line) = with_number (codes "diagonal") line
+wire_text (wire.ViaOffLayer line) = with_number (codes "via-off-layer") line
+wire_text (wire.Refused line) = with_number (codes "refused") line
+wire_text wire.Memory = codes "memory"
+
 abbrev pub limited_text : Limited → List ℕ
 limited_text RoutingLayers = codes "routing-layers"
 limited_text UsableVias = codes "usable-vias"
@@ -106,7 +132,9 @@ build_text (build.NoMacro name) = with_name (codes "no-macro") name
 build_text (build.NoComponent name) = with_name (codes "no-component") name
 build_text (build.NoPin name) = with_name (codes "no-pin") name
 build_text (build.NoLayer name) = with_name (codes "no-layer") name
+build_text (build.NoNet name) = with_name (codes "no-net") name
 build_text (build.PinTwice name) = with_name (codes "pin-twice") name
+build_text (build.Wiring fault) = with_name (codes "wiring") (wire_text fault)
 build_text (build.NoTracks name) = with_name (codes "no-tracks") name
 build_text (build.Limit what count most) = limit_text (limited_text what) count most
 build_text build.Memory = codes "memory"
@@ -116,8 +144,10 @@ abbrev pub kind_text : Refusal → List ℕ
 kind_text (Words e) = words_text e
 kind_text (LefBytes read) = limit_text (codes "lef-bytes") read lef_most
 kind_text (DefBytes read) = limit_text (codes "def-bytes") read def_most
+kind_text (GuideBytes read) = limit_text (codes "guide-bytes") read guide_most
 kind_text (Lef e) = lef_text e
 kind_text (Def e) = def_text e
+kind_text (Guide e) = guide_text e
 kind_text (Build e) = build_text e
 kind_text (Read name) = with_name (codes "read") name
 kind_text (Write name) = with_name (codes "write") name

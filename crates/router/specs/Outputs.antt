@@ -3,7 +3,7 @@ use Rattle.std.specs.Prelude.{◌≡◌, ◌⊎◌, ℕ, List, Option}
 use Rattle.shelf.specs.Faults.{HasRisen}
 use Rattle.shelf.specs.Shelf.{Files, with_file, IsCutShort}
 use Rattle.shelf.specs.Sink.{with_more, IsPartlySaid}
-use Rattle.router.specs.Words.{FileNames}
+use Rattle.router.specs.Words.{CommandLine}
 
 -- what a shelf tells at one moment: what the names hold, and the count of its faults
 pub record ShelfView : Type 0 where
@@ -22,17 +22,17 @@ abbrev pub sink_at : {K : Type 0} → (K → Option (List ℕ)) → (K → ℕ) 
 sink_at text faults out = record { text = text out; faults = faults out }
 
 -- the routed DEF stands under OUT and the journal under JOURNAL; every other name as before
-abbrev pub with_outputs : Option Files → FileNames → List ℕ → List ℕ → Option Files
-with_outputs files names routed journal = with_file (with_file files names.out routed) names.journal journal
+abbrev pub with_outputs : Option Files → CommandLine → List ℕ → List ℕ → Option Files
+with_outputs files asked routed journal = with_file (with_file files asked.out routed) asked.journal journal
 
 -- OUT was cut short, or it holds its text and JOURNAL was cut short
-abbrev pub IsPartlyPut : Option Files → Option Files → FileNames → List ℕ → List ℕ → Type 0
-IsPartlyPut old new names routed journal = IsCutShort old new names.out routed ⊎ IsCutShort (with_file old names.out routed) new names.journal journal
+abbrev pub IsPartlyPut : Option Files → Option Files → CommandLine → List ℕ → List ℕ → Type 0
+IsPartlyPut old new asked routed journal = IsCutShort old new asked.out routed ⊎ IsCutShort (with_file old asked.out routed) new asked.journal journal
 
 -- a put under this name failed: OUT was cut short, or it holds its text and JOURNAL was cut short
-abbrev pub IsPutFault : Option Files → Option Files → FileNames → List ℕ → List ℕ → List ℕ → Type 0
-IsPutFault old new names routed journal name =
-    ((name ≡ names.out) × IsCutShort old new names.out routed) ⊎ ((name ≡ names.journal) × IsCutShort (with_file old names.out routed) new names.journal journal)
+abbrev pub IsPutFault : Option Files → Option Files → CommandLine → List ℕ → List ℕ → List ℕ → Type 0
+IsPutFault old new asked routed journal name =
+    ((name ≡ asked.out) × IsCutShort old new asked.out routed) ⊎ ((name ≡ asked.journal) × IsCutShort (with_file old asked.out routed) new asked.journal journal)
 
 -- the bytes were said, or with a fault some first ones of them
 abbrev pub Says : SinkView → SinkView → List ℕ → Type 0

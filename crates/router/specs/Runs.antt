@@ -16,9 +16,9 @@ use Rattle.shelf.specs.Shelf.{Files, with_file, IsCutShort}
 use Rattle.shelf.specs.Sink.{with_more, IsPartlySaid}
 use Rattle.router.specs.declared.run.Done.{Done}
 use Rattle.router.specs.declared.refusal.Refusal.{Refusal}
-use Rattle.router.specs.declared.refusal.Refusal.TheVariants.{Words, LefBytes, DefBytes, Lef, Def, Build, Read, Write, Memory}
+use Rattle.router.specs.declared.refusal.Refusal.TheVariants.{Words, Read, Write, Memory}
 use Rattle.router.specs.declared.words.WordsFault.{WordsFault}
-use Rattle.router.specs.Words.{FileNames}
+use Rattle.router.specs.Words.{CommandLine}
 use Rattle.router.specs.Refusals.{status_of}
 use Rattle.router.specs.ErrorLines.{error_line}
 use Rattle.router.specs.Outcomes.{IsDesigned, IsFirstRefusal}
@@ -52,27 +52,27 @@ pub record IsRouting (d : Design) (blocks : List Block) : Type 0 where
   pub headline : IsHeadline d blocks
 
 -- the files told a design, and the journal is its routing: OUT holds the routed DEF, JOURNAL the journal, every other name what it held, and the report was said
-pub record IsRouted (names : FileNames) (before after : Moment) (done : Done) : Type 0 where
+pub record IsRouted (asked : CommandLine) (before after : Moment) (done : Done) : Type 0 where
   pub text : List ℕ
   pub design : Design
-  pub designed : IsDesigned before.shelf.files names text design
+  pub designed : IsDesigned before.shelf.files asked text design
   pub routing : IsRouting design done.journal.blocks
-  pub files : after.shelf.files ≡ with_outputs before.shelf.files names (routed_text text design done.journal.blocks) (journal_lines design done.journal.blocks)
+  pub files : after.shelf.files ≡ with_outputs before.shelf.files asked (routed_text text design done.journal.blocks) (journal_lines design done.journal.blocks)
   pub said : after.sink.text ≡ with_more before.sink.text (report_text design done.journal.blocks)
   pub status : done.status ≡ routed_status design (state_of design done.journal.blocks)
 
 -- ---- refused
 
 -- a file could not be read, with a fault in this call; or it is the first refusal of the files
-abbrev pub Cause : ShelfView → ShelfView → FileNames → Refusal → Type 0
-Cause before after names (Read name) = HasRisen before.faults after.faults × ((name ≡ names.lef) ⊎ (name ≡ names.def))
-Cause before after names r = IsFirstRefusal before.files names r
+abbrev pub Cause : ShelfView → ShelfView → CommandLine → Refusal → Type 0
+Cause before after asked (Read name) = HasRisen before.faults after.faults × ((name ≡ asked.lef) ⊎ (name ≡ asked.def) ⊎ (asked.guide ≡ Some name))
+Cause before after asked r = IsFirstRefusal before.files asked r
 
 -- a refusal with its cause: its line was said, and the files are as before
-pub record IsRefused (names : FileNames) (before after : Moment) (done : Done) : Type 0 where
+pub record IsRefused (asked : CommandLine) (before after : Moment) (done : Done) : Type 0 where
   pub refusal : Refusal
   pub status : done.status ≡ status_of refusal
-  pub cause : Cause before.shelf after.shelf names refusal
+  pub cause : Cause before.shelf after.shelf asked refusal
   pub said : Says before.sink after.sink (error_line refusal)
   pub files : after.shelf.files ≡ before.shelf.files
   pub no_blocks : done.journal.blocks ≡ []
@@ -80,67 +80,67 @@ pub record IsRefused (names : FileNames) (before after : Moment) (done : Done) :
 -- ---- ended while the outputs were written
 
 -- OUT or JOURNAL could not be put, with a fault in this call, and the line that names it was said
-pub record IsPutFailed (names : FileNames) (before after : Moment) (routed journal : List ℕ) : Type 0 where
+pub record IsPutFailed (asked : CommandLine) (before after : Moment) (routed journal : List ℕ) : Type 0 where
   pub name : List ℕ
   pub risen : HasRisen before.shelf.faults after.shelf.faults
-  pub files : IsPutFault before.shelf.files after.shelf.files names routed journal name
+  pub files : IsPutFault before.shelf.files after.shelf.files asked routed journal name
   pub said : Says before.sink after.sink (error_line (Write name))
 
 -- both were put, and the report could not be said, with a fault in this call
-pub record IsSayFailed (names : FileNames) (before after : Moment) (routed journal report : List ℕ) : Type 0 where
+pub record IsSayFailed (asked : CommandLine) (before after : Moment) (routed journal report : List ℕ) : Type 0 where
   pub risen : HasRisen before.sink.faults after.sink.faults
-  pub files : after.shelf.files ≡ with_outputs before.shelf.files names routed journal
+  pub files : after.shelf.files ≡ with_outputs before.shelf.files asked routed journal
   pub said : IsPartlySaid before.sink.text after.sink.text report
 
 -- a design was routed, and an output could not be written
-pub record IsUnwritten (names : FileNames) (before after : Moment) (done : Done) : Type 0 where
+pub record IsUnwritten (asked : CommandLine) (before after : Moment) (done : Done) : Type 0 where
   pub text : List ℕ
   pub design : Design
-  pub designed : IsDesigned before.shelf.files names text design
+  pub designed : IsDesigned before.shelf.files asked text design
   pub routing : IsRouting design done.journal.blocks
-  pub fault : IsPutFailed names before after (routed_text text design done.journal.blocks) (journal_lines design done.journal.blocks)
-      ⊎ IsSayFailed names before after (routed_text text design done.journal.blocks) (journal_lines design done.journal.blocks) (report_text design done.journal.blocks)
+  pub fault : IsPutFailed asked before after (routed_text text design done.journal.blocks) (journal_lines design done.journal.blocks)
+      ⊎ IsSayFailed asked before after (routed_text text design done.journal.blocks) (journal_lines design done.journal.blocks) (report_text design done.journal.blocks)
 
 -- ---- want of memory
 
 -- a design was routed, and some of the outputs were put
-pub record IsPartlyWritten (names : FileNames) (before after : ShelfView) : Type 0 where
+pub record IsPartlyWritten (asked : CommandLine) (before after : ShelfView) : Type 0 where
   pub text : List ℕ
   pub design : Design
   pub blocks : List Block
-  pub designed : IsDesigned before.files names text design
+  pub designed : IsDesigned before.files asked text design
   pub routing : IsRouting design blocks
-  pub files : IsPartlyPut before.files after.files names (routed_text text design blocks) (journal_lines design blocks)
-      ⊎ (after.files ≡ with_outputs before.files names (routed_text text design blocks) (journal_lines design blocks))
+  pub files : IsPartlyPut before.files after.files asked (routed_text text design blocks) (journal_lines design blocks)
+      ⊎ (after.files ≡ with_outputs before.files asked (routed_text text design blocks) (journal_lines design blocks))
 
 -- its line was said, or nothing
 abbrev pub SaysMemory : SinkView → SinkView → Type 0
 SaysMemory before after = Says before after (error_line Memory) ⊎ (after.text ≡ before.text)
 
-pub record IsOutOfMemory (names : FileNames) (before after : Moment) (done : Done) : Type 0 where
+pub record IsOutOfMemory (asked : CommandLine) (before after : Moment) (done : Done) : Type 0 where
   pub said : SaysMemory before.sink after.sink
-  pub files : (after.shelf.files ≡ before.shelf.files) ⊎ IsPartlyWritten names before.shelf after.shelf
+  pub files : (after.shelf.files ≡ before.shelf.files) ⊎ IsPartlyWritten asked before.shelf after.shelf
   pub no_blocks : done.journal.blocks ≡ []
 
 -- ---- the whole
 
 -- what a run of `route` with these files comes to, by its status
-pub record Runs (names : FileNames) (before after : Moment) (done : Done) : Type 0 where
+pub record Runs (asked : CommandLine) (before after : Moment) (done : Done) : Type 0 where
   -- 0 and 1: routed
-  pub routed : done.status ≤ 1 → IsRouted names before after done
-  -- 3, 4, 6, 7 and 8: refused
-  pub refused : 2 ≤ done.status → done.status ≤ 8 → IsRefused names before after done
+  pub routed : done.status ≤ 1 → IsRouted asked before after done
+  -- 3 to 8: refused
+  pub refused : 2 ≤ done.status → done.status ≤ 8 → IsRefused asked before after done
   -- 9: an output could not be written
-  pub unwritten : done.status ≡ 9 → IsUnwritten names before after done
+  pub unwritten : done.status ≡ 9 → IsUnwritten asked before after done
   -- 10: want of memory
-  pub out_of_memory : done.status ≡ 10 → IsOutOfMemory names before after done
+  pub out_of_memory : done.status ≡ 10 → IsOutOfMemory asked before after done
   -- and no other
   pub most : done.status ≤ 10
 
 -- a run answers what its files come to: their first refusal has its status, and a design is routed, unless a fault came in this call or memory ran out
-pub record AnswersExactly (names : FileNames) (before after : Moment) (done : Done) : Type 0 where
-  pub refusals : (files : Files) (r : Refusal) → before.shelf.files ≡ Some files → IsFirstRefusal (Some files) names r → ¬ HasRisen before.shelf.faults after.shelf.faults → (done.status ≡ status_of r) ⊎ (done.status ≡ 10)
-  pub designs : (files : Files) (text : List ℕ) (d : Design) → before.shelf.files ≡ Some files → IsDesigned (Some files) names text d → ¬ HasRisen before.shelf.faults after.shelf.faults → ¬ HasRisen before.sink.faults after.sink.faults → (done.status ≤ 1) ⊎ (done.status ≡ 10)
+pub record AnswersExactly (asked : CommandLine) (before after : Moment) (done : Done) : Type 0 where
+  pub refusals : (files : Files) (r : Refusal) → before.shelf.files ≡ Some files → IsFirstRefusal (Some files) asked r → ¬ HasRisen before.shelf.faults after.shelf.faults → (done.status ≡ status_of r) ⊎ (done.status ≡ 10)
+  pub designs : (files : Files) (text : List ℕ) (d : Design) → before.shelf.files ≡ Some files → IsDesigned (Some files) asked text d → ¬ HasRisen before.shelf.faults after.shelf.faults → ¬ HasRisen before.sink.faults after.sink.faults → (done.status ≤ 1) ⊎ (done.status ≡ 10)
 
 -- what a run with words that are no command line comes to: status 2, or want of memory, and nothing is touched
 pub record RefusesWords (fault : WordsFault) (before after : Moment) (done : Done) : Type 0 where

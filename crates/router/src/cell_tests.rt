@@ -82,7 +82,7 @@ END INV
 END LIBRARY
 ";
 
-/// Two cells beside each other, the second one flipped, and a net between them.
+/// Two cells beside each other, the second one flipped, a rail above them, and a net between them.
 const DEF: &[u8] = b"\
 VERSION 5.8 ;
 DIVIDERCHAR \"/\" ;
@@ -97,10 +97,20 @@ TRACKS X 100 DO 20 STEP 200 LAYER M2 ;
 TRACKS Y 100 DO 10 STEP 200 LAYER M2 ;
 GCELLGRID X 0 DO 3 STEP 2000 ;
 GCELLGRID Y 0 DO 2 STEP 2000 ;
+VIAS 1 ;
+- VP + VIARULE V12gen + CUTSIZE 50 50 + LAYERS M1 C1 M2
+  + CUTSPACING 100 100 + ENCLOSURE 20 20 20 20 + ROWCOL 1 2 ;
+END VIAS
 COMPONENTS 2 ;
 - u1 INV + SOURCE NETLIST + PLACED ( 0 0 ) N ;
 - u2 INV + PLACED ( 2000 0 ) FN ;
 END COMPONENTS
+SPECIALNETS 1 ;
+- VDD ( * VDD )
+  + ROUTED M1 100 + SHAPE FOLLOWPIN ( 0 1950 ) ( 4000 * )
+  NEW M1 0 + SHAPE STRIPE ( 2000 1950 ) VP
+  + USE POWER ;
+END SPECIALNETS
 NETS 1 ;
 - n1 ( u1 Y ) ( u2 A ) + USE SIGNAL ;
 END NETS

@@ -4,6 +4,8 @@
 
 #[cfg(test)]
 mod cell_tests;
+#[cfg(test)]
+mod design_tests;
 mod lines;
 mod outputs;
 mod read;
@@ -15,6 +17,6 @@ mod tests;
 mod words;
 
 pub use lines::error_line;
-pub use refusal::{DEF_MOST, LEF_MOST, Refusal};
+pub use refusal::{DEF_MOST, GUIDE_MOST, LEF_MOST, Refusal};
 pub use run::{Done, run_serial};
 pub use words::{WordsFault, needs_workers};

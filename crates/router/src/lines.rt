@@ -1,11 +1,13 @@
 //! The line that is said where a run is refused.
 ghost use Rattle.std.specs.Prelude.{◌≡◌, ◌++◌, codes, IfOk, OnOk};
-ghost use Rattle.router.specs.ErrorLines.{with_number, with_name, with_number_name, with_names, with_numbers, words_text, scan_text, fault_text, what_text, lef_text, def_text, limited_text, limit_text, build_text, kind_text, error_line};
+ghost use Rattle.router.specs.ErrorLines.{with_number, with_name, with_number_name, with_names, with_numbers, words_text, scan_text, fault_text, what_text, lef_text, def_text, guide_text, wire_text, limited_text, limit_text, build_text, kind_text, error_line};
 
-use crate::refusal::{DEF_MOST, LEF_MOST, Refusal};
+use crate::refusal::{DEF_MOST, GUIDE_MOST, LEF_MOST, Refusal};
 use crate::words::WordsFault;
 use build::{BuildError, Limited};
 use def_text::DefError;
+use def_wires::WireFault;
+use guide_text::GuideError;
 use lef_text::{LefError, What};
 use rt_base::{Memory, ScanError};
 use rt_text::Text;
@@ -78,8 +80,10 @@ fn words_text(text: &mut Text, fault: &WordsFault) -> Result<(), Memory>
     ensures { OnOk result (text.new ≡ text.old ++ words_text fault.now) }
 {
     match fault {
-        WordsFault::Shape { word } => with_number(text, b"shape", u64::from(*word)),
-        WordsFault::SameName { word } => with_number(text, b"same-name", u64::from(*word)),
+        WordsFault::Shape { word } => with_number(text, b"shape", *word),
+        WordsFault::Twice { word } => with_number(text, b"twice", *word),
+        WordsFault::Number { word } => with_number(text, b"number", *word),
+        WordsFault::SameName { word } => with_number(text, b"same-name", *word),
     }
 }
 
@@ -167,6 +171,43 @@ fn def_text(text: &mut Text, error: &DefError) -> Result<(), Memory>
     }
 }
 
+fn guide_text(text: &mut Text, error: &GuideError) -> Result<(), Memory>
+    ensures { OnOk result (text.new ≡ text.old ++ guide_text error.now) }
+{
+    match error {
+        GuideError::Scan(fault) => scan_text(text, fault),
+        GuideError::Expected { line } => with_number(text, b"expected", u64::from(*line)),
+        GuideError::Number { line } => with_number(text, b"number", u64::from(*line)),
+        GuideError::EmptyBox { line } => with_number(text, b"empty-box", u64::from(*line)),
+        GuideError::Twice { line, name } => with_number_name(text, b"twice", *line, name.bytes()),
+        GuideError::Unended { line } => with_number(text, b"unended", u64::from(*line)),
+        GuideError::Memory => text.bytes(b"memory"),
+    }
+}
+
+fn wire_text(text: &mut Text, fault: &WireFault) -> Result<(), Memory>
+    ensures { OnOk result (text.new ≡ text.old ++ wire_text fault.now) }
+{
+    match fault {
+        WireFault::Expected { line } => with_number(text, b"expected", u64::from(*line)),
+        WireFault::Number { line } => with_number(text, b"number", u64::from(*line)),
+        WireFault::NoSuchLayer { line } => with_number(text, b"no-such-layer", u64::from(*line)),
+        WireFault::NoSuchVia { line } => with_number(text, b"no-such-via", u64::from(*line)),
+        WireFault::FirstStar { line } => with_number(text, b"first-star", u64::from(*line)),
+        WireFault::Diagonal { line } => with_number(text, b"diagonal", u64::from(*line)),
+        WireFault::ViaOffLayer { line } => with_number(text, b"via-off-layer", u64::from(*line)),
+        WireFault::Refused { line } => with_number(text, b"refused", u64::from(*line)),
+        WireFault::Memory => text.bytes(b"memory"),
+    }
+}
+
+fn wiring_text(text: &mut Text, fault: &WireFault) -> Result<(), Memory>
+    ensures { OnOk result (text.new ≡ text.old ++ with_name (codes "wiring") (wire_text fault.now)) }
+{
+    text.bytes(b"wiring ")?;
+    wire_text(text, fault)
+}
+
 fn limited_word(what: Limited) -> &'static [u8]
     ensures { result.now ≡ limited_text what }
 {
@@ -200,7 +241,9 @@ fn build_text(text: &mut Text, error: &BuildError) -> Result<(), Memory>
         BuildError::NoComponent { name } => with_name(text, b"no-component", name.bytes()),
         BuildError::NoPin { name } => with_name(text, b"no-pin", name.bytes()),
         BuildError::NoLayer { name } => with_name(text, b"no-layer", name.bytes()),
+        BuildError::NoNet { name } => with_name(text, b"no-net", name.bytes()),
         BuildError::PinTwice { name } => with_name(text, b"pin-twice", name.bytes()),
+        BuildError::Wiring { fault } => wiring_text(text, fault),
         BuildError::NoTracks { layer } => with_name(text, b"no-tracks", layer.bytes()),
         BuildError::Limit { what, count, most } => {
             limit_text(text, limited_word(*what), *count, *most)
@@ -216,8 +259,10 @@ fn kind_text(text: &mut Text, refusal: &Refusal) -> Result<(), Memory>
         Refusal::Words(fault) => words_text(text, fault),
         Refusal::LefBytes { read } => limit_text(text, b"lef-bytes", *read, LEF_MOST),
         Refusal::DefBytes { read } => limit_text(text, b"def-bytes", *read, DEF_MOST),
+        Refusal::GuideBytes { read } => limit_text(text, b"guide-bytes", *read, GUIDE_MOST),
         Refusal::Lef(error) => lef_text(text, error),
         Refusal::Def(error) => def_text(text, error),
+        Refusal::Guide(error) => guide_text(text, error),
         Refusal::Build(error) => build_text(text, error),
         Refusal::Read { name } => with_name(text, b"read", name.bytes()),
         Refusal::Write { name } => with_name(text, b"write", name.bytes()),

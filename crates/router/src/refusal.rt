@@ -5,6 +5,7 @@ ghost use Rattle.router.specs.Refusals.{build_status};
 use crate::words::WordsFault;
 use build::BuildError;
 use def_text::DefError;
+use guide_text::GuideError;
 use lef_text::LefError;
 use rt_base::{Memory, Name};
 
@@ -13,6 +14,9 @@ pub const LEF_MOST: u64 = 67_108_864;
 
 /// The most bytes of a DEF text.
 pub const DEF_MOST: u64 = 268_435_456;
+
+/// The most bytes of a guide text.
+pub const GUIDE_MOST: u64 = 268_435_456;
 
 /// Why a run is refused. What is wrong with a text or a design is never want of memory, which has a
 /// variant of its own.
@@ -24,10 +28,14 @@ pub enum Refusal {
     LefBytes { read: u64 },
     /// DEF has more than [`DEF_MOST`] bytes: so many of them were counted.
     DefBytes { read: u64 },
+    /// The guides have more than [`GUIDE_MOST`] bytes: so many of them were counted.
+    GuideBytes { read: u64 },
     /// LEF isn't in its grammar.
     Lef(LefError),
     /// DEF isn't in its grammar.
     Def(DefError),
+    /// The guides aren't in their grammar.
+    Guide(GuideError),
     /// The texts give no design, or one above a limit.
     Build(BuildError),
     /// The file could not be read.
@@ -74,6 +82,19 @@ impl From<DefError> for Refusal {
     }
 }
 
+impl From<GuideError> for Refusal {
+    ghost use Rattle.router.specs.Refusals.{of_guide};
+
+    ghost from_gives = { λ error e. e ≡ of_guide error };
+
+    fn from(error: GuideError) -> Refusal {
+        match error {
+            GuideError::Memory => Refusal::Memory,
+            error => Refusal::Guide(error),
+        }
+    }
+}
+
 impl From<BuildError> for Refusal {
     ghost use Rattle.router.specs.Refusals.{of_build};
 
@@ -99,7 +120,9 @@ fn build_status(error: &BuildError) -> u8
         | BuildError::NoComponent { .. }
         | BuildError::NoPin { .. }
         | BuildError::NoLayer { .. }
+        | BuildError::NoNet { .. }
         | BuildError::PinTwice { .. }
+        | BuildError::Wiring { .. }
         | BuildError::NoTracks { .. } => 6,
     }
 }
@@ -115,8 +138,9 @@ impl Refusal {
             Refusal::Words(_) => 2,
             Refusal::Lef(_) => 3,
             Refusal::Def(_) => 4,
+            Refusal::Guide(_) => 5,
             Refusal::Build(error) => build_status(error),
-            Refusal::LefBytes { .. } | Refusal::DefBytes { .. } => 7,
+            Refusal::LefBytes { .. } | Refusal::DefBytes { .. } | Refusal::GuideBytes { .. } => 7,
             Refusal::Read { .. } => 8,
             Refusal::Write { .. } => 9,
             Refusal::Memory => 10,

@@ -2,7 +2,7 @@
 ghost use Rattle.std.specs.Prelude.{◌≡◌, ◌⊎◌, ◌≤◌, ◌==◌, if◌then◌else◌, IfOk, IfErr, OnOk, []};
 ghost use Rattle.shelf.specs.Shelf.{with_file};
 ghost use Rattle.router.specs.declared.refusal.Refusal.TheVariants.{Memory as OutOfMemory, Write as Unwritten};
-ghost use Rattle.router.specs.Words.{word_texts, command_of, names_in};
+ghost use Rattle.router.specs.Words.{word_texts, command_of, asked_by, IsInRange};
 ghost use Rattle.router.specs.Outcomes.{AreHeld};
 ghost use Rattle.router.specs.Outputs.{shelf_at, sink_at, with_outputs};
 ghost use Rattle.router.specs.Runs.{moment_at, AnswersExactly, RefusesWords, Runs, SaysMemory};
@@ -12,7 +12,7 @@ use crate::lines::error_line;
 use crate::outputs::{Outputs, make_outputs};
 use crate::read::read_design;
 use crate::refusal::Refusal;
-use crate::words::{Names, command};
+use crate::words::{Command, read_words};
 use rt_base::{Memory, Name};
 use shelf::{PutFault, SayFault, Shelf, Sink};
 use std::alloc::Global;
@@ -106,18 +106,18 @@ fn put<F: Shelf>(alloc: Global, files: &mut F, name: &str, bytes: &[u8]) -> Resu
 fn put_outputs<F: Shelf>(
     alloc: Global,
     files: &mut F,
-    names: &Names<'_>,
+    command: &Command<'_>,
     routed: &[u8],
     lines: &[u8],
 ) -> Result<(), Refusal>
-    ensures ok { OnOk result (F.told files.new ≡ with_outputs (F.told files.old) (names_in names.now) routed.now lines.now) }
-    ensures err { IfErr result (IsUnput (shelf_at F.told F.faults files.old) (shelf_at F.told F.faults files.new) (names_in names.now) routed.now lines.now) }
+    ensures ok { OnOk result (F.told files.new ≡ with_outputs (F.told files.old) (asked_by command.now) routed.now lines.now) }
+    ensures err { IfErr result (IsUnput (shelf_at F.told F.faults files.old) (shelf_at F.told F.faults files.new) (asked_by command.now) routed.now lines.now) }
     ensures count { F.faults files.old ≤ F.faults files.new }
     ensures stays_sure { F.sure files.old → F.sure files.new }
     ensures sure_count { F.sure files.old → F.faults files.new ≡ F.faults files.old }
 {
-    put(alloc, files, names.out.as_str(), routed)?;
-    put(alloc, files, names.journal.as_str(), lines)
+    put(alloc, files, command.out.as_str(), routed)?;
+    put(alloc, files, command.journal.as_str(), lines)
 }
 
 /// Ends a run of which an output could not be put.
@@ -170,12 +170,12 @@ fn say_report<K: Sink>(
 /// Writes the outputs, and ends the run.
 fn write_outputs<F: Shelf, K: Sink>(
     alloc: Global,
-    names: &Names<'_>,
+    command: &Command<'_>,
     outputs: Outputs,
     files: &mut F,
     out: &mut K,
 ) -> Done
-    ensures ends { Ends (names_in names.now) outputs (moment_at F.told F.faults K.text K.faults files.old out.old) (moment_at F.told F.faults K.text K.faults files.new out.new) result }
+    ensures ends { Ends (asked_by command.now) outputs (moment_at F.told F.faults K.text K.faults files.old out.old) (moment_at F.told F.faults K.text K.faults files.new out.new) result }
     ensures sure_files { F.sure files.old → F.faults files.new ≡ F.faults files.old }
     ensures sure_out { K.sure out.old → K.faults out.new ≡ K.faults out.old }
 {
@@ -186,7 +186,7 @@ fn write_outputs<F: Shelf, K: Sink>(
         report,
         status,
     } = outputs;
-    match put_outputs(alloc, files, names, routed.as_slice(), lines.as_slice()) {
+    match put_outputs(alloc, files, command, routed.as_slice(), lines.as_slice()) {
         Ok(()) => say_report(alloc, status, journal, report.as_slice(), out),
         Err(refusal) => unput(alloc, journal, out, &refusal),
     }
@@ -195,34 +195,35 @@ fn write_outputs<F: Shelf, K: Sink>(
 /// Runs `route` on these files.
 fn run_route<F: Shelf, K: Sink>(
     alloc: Global,
-    names: &Names<'_>,
+    command: &Command<'_>,
     files: &mut F,
     out: &mut K,
 ) -> Done
-    ensures runs { Runs (names_in names.now) (moment_at F.told F.faults K.text K.faults files.old out.old) (moment_at F.told F.faults K.text K.faults files.new out.new) result }
-    ensures sure_files { F.sure files.old → AreHeld (F.told files.old) (names_in names.now) → F.faults files.new ≡ F.faults files.old }
+    requires { IsInRange (asked_by command.now) }
+    ensures runs { Runs (asked_by command.now) (moment_at F.told F.faults K.text K.faults files.old out.old) (moment_at F.told F.faults K.text K.faults files.new out.new) result }
+    ensures sure_files { F.sure files.old → AreHeld (F.told files.old) (asked_by command.now) → F.faults files.new ≡ F.faults files.old }
     ensures sure_out { K.sure out.old → K.faults out.new ≡ K.faults out.old }
 {
-    let read = match read_design(alloc, files, names) {
+    let read = match read_design(alloc, files, command) {
         Ok(read) => read,
         Err(refusal) => return refused(alloc, out, &refusal),
     };
     match make_outputs(alloc, read.text.as_slice(), &read.design) {
-        Ok(outputs) => write_outputs(alloc, names, outputs, files, out),
+        Ok(outputs) => write_outputs(alloc, command, outputs, files, out),
         Err(Memory) => refused(alloc, out, &Refusal::Memory),
     }
 }
 
-/// Runs the command line `route LEF DEF - OUT JOURNAL` on one thread: reads LEF and DEF from the shelf,
-/// routes the design, puts the routed DEF under OUT and the journal under JOURNAL, and says the
-/// report. It always returns.
+/// Runs the command line `route LEF DEF GUIDE OUT JOURNAL`, behind which options stand, on one thread:
+/// reads LEF, DEF and, where GUIDE isn't `-`, guides from the shelf, routes the design, puts the routed
+/// DEF under OUT and the journal under JOURNAL, and says the report. It always returns.
 ///
 /// | Status | Comes | Files |
 /// |---|---|---|
 /// | 0 | each routable net is joined, and no net lacks a guide | both are put |
 /// | 1 | a net is stuck or has no guide | both are put |
 /// | 2 | the words are no such command line | untouched |
-/// | 3, 4 | LEF, or DEF, isn't in its grammar | untouched |
+/// | 3, 4, 5 | LEF, DEF or the guides aren't in their grammar | untouched |
 /// | 6 | the texts give no design | untouched |
 /// | 7 | a count is above its limit | untouched |
 /// | 8 | a file could not be read | untouched |
@@ -236,15 +237,15 @@ pub fn run_serial<F: Shelf, K: Sink>(
     files: &mut F,
     out: &mut K,
 ) -> Done
-    ensures runs { IfOk (command_of (word_texts words.now)) (λ names. Runs names (moment_at F.told F.faults K.text K.faults files.old out.old) (moment_at F.told F.faults K.text K.faults files.new out.new) result) }
+    ensures runs { IfOk (command_of (word_texts words.now)) (λ asked. Runs asked (moment_at F.told F.faults K.text K.faults files.old out.old) (moment_at F.told F.faults K.text K.faults files.new out.new) result) }
     ensures words { IfErr (command_of (word_texts words.now)) (λ fault. RefusesWords fault (moment_at F.told F.faults K.text K.faults files.old out.old) (moment_at F.told F.faults K.text K.faults files.new out.new) result) }
-    ensures exact { IfOk (command_of (word_texts words.now)) (λ names. AnswersExactly names (moment_at F.told F.faults K.text K.faults files.old out.old) (moment_at F.told F.faults K.text K.faults files.new out.new) result) }
+    ensures exact { IfOk (command_of (word_texts words.now)) (λ asked. AnswersExactly asked (moment_at F.told F.faults K.text K.faults files.old out.old) (moment_at F.told F.faults K.text K.faults files.new out.new) result) }
     ensures untouched { IfErr (command_of (word_texts words.now)) (λ _. files.new ≡ files.old) }
     ensures sure_files { F.sure files.old → IfOk (command_of (word_texts words.now)) (AreHeld (F.told files.old)) → F.faults files.new ≡ F.faults files.old }
     ensures sure_out { K.sure out.old → K.faults out.new ≡ K.faults out.old }
 {
-    match command(words) {
-        Ok(names) => run_route(alloc, &names, files, out),
+    match read_words(words) {
+        Ok(command) => run_route(alloc, &command, files, out),
         Err(fault) => refused(alloc, out, &Refusal::Words(fault)),
     }
 }

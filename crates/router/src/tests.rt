@@ -4,7 +4,7 @@ use std::alloc::{AllocError, Global};
 use std::test::Fail;
 
 /// Two routing layers and a cut layer between them, and a via.
-const LEF: &[u8] = b"\
+pub const LEF: &[u8] = b"\
 VERSION 5.8 ;
 UNITS
   DATABASE MICRONS 1000 ;
@@ -105,7 +105,7 @@ skipped 0
 ";
 
 /// A die with ten tracks on each level.
-const HEAD: &[u8] = b"\
+pub const HEAD: &[u8] = b"\
 VERSION 5.8 ;
 DESIGN top ;
 UNITS DISTANCE MICRONS 1000 ;
@@ -146,7 +146,7 @@ pub struct Ran {
 const ROUTE: [&str; 6] = ["route", "l", "d", "-", "o", "j"];
 
 /// Runs the words over the files `l` and `d`, where the listed calls of the shelf and the sink fail.
-fn run_words(
+pub fn run_words(
     alloc: Global,
     list: &[&str],
     files: Vec<(String, Vec<u8>)>,
@@ -358,15 +358,87 @@ fn faults_end_a_run(rt: HostRuntime) -> Result<(), Fail> {
     Ok(())
 }
 
-/// Words and the line that refuses them.
-const REFUSED: [(&[&str], &[u8]); 9] = [
+/// Words and the line that refuses them: the form of all words comes first, then options that stand
+/// twice, then values, then names.
+const REFUSED: [(&[&str], &[u8]); 27] = [
     (&[], b"error 2 shape 1\n"),
     (&["rout", "a", "b"], b"error 2 shape 1\n"),
     (&["route", "a", "b"], b"error 2 shape 4\n"),
-    (&["route", "a", "b", "g", "c", "d"], b"error 2 shape 4\n"),
+    (&["route", "a", "b", "-"], b"error 2 shape 5\n"),
+    (&["route", "a", "b", "-", "c"], b"error 2 shape 6\n"),
+    (
+        &["route", "a", "b", "-", "c", "d", "e"],
+        b"error 2 shape 7\n",
+    ),
     (
         &["route", "a", "b", "-", "c", "c", "--via"],
+        b"error 2 shape 8\n",
+    ),
+    (
+        &["route", "a", "b", "-", "c", "d", "--workers", "1"],
         b"error 2 shape 7\n",
+    ),
+    (
+        &["route", "a", "b", "-", "c", "d", "--rips", "3"],
+        b"error 2 shape 7\n",
+    ),
+    (
+        &["route", "a", "b", "-", "c", "d", "--via", "5", "x", "6"],
+        b"error 2 shape 9\n",
+    ),
+    (
+        &["route", "a", "b", "-", "c", "d", "--via", "5", "--tile"],
+        b"error 2 shape 10\n",
+    ),
+    (
+        &[
+            "route", "a", "b", "-", "c", "d", "--via", "5", "--via", "5", "--rips", "1",
+        ],
+        b"error 2 shape 11\n",
+    ),
+    (
+        &["route", "a", "b", "-", "c", "d", "--via", "5", "--via", "6"],
+        b"error 2 twice 9\n",
+    ),
+    (
+        &[
+            "route", "a", "b", "-", "c", "c", "--tile", "x", "--via", "1", "--tile", "y",
+        ],
+        b"error 2 twice 11\n",
+    ),
+    (
+        &["route", "a", "b", "-", "c", "d", "--via", "05"],
+        b"error 2 number 8\n",
+    ),
+    (
+        &["route", "a", "b", "-", "c", "d", "--via", "+5"],
+        b"error 2 number 8\n",
+    ),
+    (
+        &["route", "a", "b", "-", "c", "d", "--via", ""],
+        b"error 2 number 8\n",
+    ),
+    (
+        &["route", "a", "b", "-", "c", "d", "--via", "1048577"],
+        b"error 2 number 8\n",
+    ),
+    (
+        &["route", "a", "b", "-", "c", "d", "--tile", "0"],
+        b"error 2 number 8\n",
+    ),
+    (
+        &["route", "a", "b", "-", "c", "d", "--tile", "1073741825"],
+        b"error 2 number 8\n",
+    ),
+    (
+        &[
+            "route", "a", "b", "-", "c", "d", "--tile", "5", "--via", "--tile",
+        ],
+        b"error 2 number 10\n",
+    ),
+    (
+        &["route", "a", "a", "-", "c", "d", "--via", "x"],
+        b"error 2 number 8\n",
     ),
     (
         &["route", "a", "b", "-", "c", "c"],
@@ -383,6 +455,21 @@ const REFUSED: [(&[&str], &[u8]); 9] = [
     (
         &["route", "a", "b", "-", "-", "d"],
         b"error 2 same-name 5\n",
+    ),
+    (
+        &[
+            "route",
+            "route",
+            "b",
+            "g",
+            "c",
+            "g",
+            "--via",
+            "1048576",
+            "--tile",
+            "1073741824",
+        ],
+        b"error 2 same-name 6\n",
     ),
 ];
 
@@ -425,7 +512,7 @@ struct Change {
     says: &'static [u8],
 }
 
-const CHANGES: [Change; 14] = [
+const CHANGES: [Change; 16] = [
     Change {
         lef: false,
         line: 14,
@@ -481,6 +568,20 @@ const CHANGES: [Change; 14] = [
         by: b"TRACKS X 0 DO 65537 STEP 1 LAYER M2 ;",
         status: 7,
         says: b"error 7 limit tracks 65537 65536\n",
+    },
+    Change {
+        lef: false,
+        line: 3,
+        by: b"UNITS DISTANCE MICRONS 3000 ;",
+        status: 6,
+        says: b"error 6 scale 1000 3000\n",
+    },
+    Change {
+        lef: false,
+        line: 6,
+        by: b"TRACKS Y 100 DO 10 STEP 200 LAYER M2 ;",
+        status: 6,
+        says: b"error 6 no-tracks M2\n",
     },
     Change {
         lef: true,

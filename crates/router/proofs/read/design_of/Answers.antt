@@ -1,30 +1,27 @@
-use Rattle.std.proofs.Common.{◌≡◌, ◌≢◌, IfErr, IfOk, ◌∙◌, to_z, of_z, w64, rules}
-use Rattle.std.proofs.lemmas.Int.{to_z-of_z}
+use Rattle.std.proofs.Common.{◌≡◌, ◌≢◌, IfErr, IfOk, ap}
 use Rattle.std.proofs.lemmas.Result.{err_from_is_err_and}
-use Rattle.router.specs.Outcomes.{IsTextRefusal, AreDesign}
+use Rattle.rt_base.proofs.Scanning.{made_inside}
+use Rattle.std.specs.Option.{option_copied}
+use Rattle.router.specs.Words.{asked_by}
+use Rattle.router.specs.Outcomes.{IsBuildRefusal}
+use Rattle.track_graph.specs.declared.design.Options.{Options}
 use Rattle.router.specs.Made.{IsReady}
-use Rattle.router.proofs.ReadLemmas.{build_refusal, build_refused, design_of_texts, ready_of}
+use Rattle.router.proofs.ReadLemmas.{build_refusal, ready_of}
 use Rattle.router.proofs.read.design_of.Goals as goal
 
-pub returns-in_err-library-clause-refusal : goal.returns-in_err-library-clause-refusal
-returns-in_err-library-clause-refusal c =
-    let p = err_from_is_err_and c.from_residual.result c.from_residual.ensures.1 in
-    rw (p.1, p.2) c.in_err-library.ensures.refusal
+pub build-requires-clause-tokens : goal.build-requires-clause-tokens
+build-requires-clause-tokens c = rw (c.as_slice.ensures, c.as_slice-2.ensures) (made_inside _ _ c.requires.def.cut.made)
+
+pub build-requires-clause-ranges : goal.build-requires-clause-ranges
+build-requires-clause-ranges c = rw c.as_slice-2.ensures c.requires.said.ranges
 
 pub returns-in_err-build-clause-refusal : goal.returns-in_err-build-clause-refusal
 returns-in_err-build-clause-refusal c =
-    let p = err_from_is_err_and c.from_residual-in_err-build.result c.from_residual-in_err-build.ensures.1 in
-    let whole : to_z w64 (of_z w64 c.default_tile.result) ≡ c.default_tile.result = to_z-of_z w64 _ (search rules) in
-    let tile = whole ∙ c.default_tile.ensures.value in
-    let say = c.in_ok-library.ensures.say in
-    rw (p.1, p.2) (build_refusal c.args.lef.now c.args.def.now _ (λ ne. build_refused c.args.lef.now c.args.def.now say.0 c.in_ok-library.library c.in_ok-library.chip _ (to_z w64 (of_z w64 c.default_tile.result)) tile say.1 (c.in_err-build.ensures.refusal ne)))
+    let p = err_from_is_err_and c.from_residual.result c.from_residual.ensures.1 in
+    rw (p.1, p.2) (build_refusal (asked_by c.args.command.now) c.args.def.now c.args.said.now (option_copied c.args.guides) _ (rw (c.as_slice.ensures, c.as_slice-2.ensures, c.options_of-options.ensures.options) at c.in_err-build.ensures.refusal))
 
 pub returns-clause-design : goal.returns-clause-design
-returns-clause-design c =
-    let whole : to_z w64 (of_z w64 c.default_tile.result) ≡ c.default_tile.result = to_z-of_z w64 _ (search rules) in
-    let tile = whole ∙ c.default_tile.ensures.value in
-    let say = c.in_ok-library.ensures.say in
-    design_of_texts c.args.lef.now c.args.def.now say.0 c.in_ok-library.library c.in_ok-library.chip _ (to_z w64 (of_z w64 c.default_tile.result)) tile say.1 c.in_ok-build.ensures.design
+returns-clause-design c = rw (c.as_slice.ensures, c.as_slice-2.ensures, c.options_of-options.ensures.options) at c.in_ok-build.ensures.design
 
 pub returns-clause-ready : goal.returns-clause-ready
-returns-clause-ready c = ready_of c.in_ok-library.library c.in_ok-library.chip (to_z w64 (of_z w64 c.default_tile.result)) c.args.def.now.text _ c.in_ok-build.ensures.fits c.in_ok-build.ensures.design.design c.in_ok-library.ensures.closes
+returns-clause-ready c = ready_of _ _ c.args.def.now.text _ (ap (λ (o : Options). o.rips) c.options_of-options.ensures.options) c.in_ok-build.ensures.fits c.in_ok-build.ensures.design.design c.requires.said.closes

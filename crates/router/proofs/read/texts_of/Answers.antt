@@ -1,6 +1,7 @@
 use Rattle.std.proofs.Common.{◌≡◌, ◌≢◌, inr, IfErr, IfOk}
 use Rattle.std.proofs.lemmas.Result.{err_from_is_err_and}
-use Rattle.router.specs.Outcomes.{IsTextRefusal, SaysBoth}
+use Rattle.router.specs.Outcomes.{IsTextRefusal, SayBoth}
+use Rattle.router.specs.Sources.{AreReadable}
 use Rattle.router.proofs.ReadLemmas.{def_refusal}
 use Rattle.router.proofs.read.texts_of.Goals as goal
 
@@ -20,4 +21,12 @@ pub returns-clause-say : goal.returns-clause-say
 returns-clause-say c =
     let says = c.in_ok-library.ensures.says in
     let reads = rw (c.as_slice.ensures, c.as_slice-2.ensures) at c.in_ok-chip.ensures.reads in
-    (says.0, record { in_units = says.1; def_says = reads.found })
+    record { units = says.0; in_units = says.1; def_says = reads.found }
+
+pub returns-clause-fit : goal.returns-clause-fit
+returns-clause-fit c = record {
+  lef_fits = c.in_ok-library.ensures.fits;
+  def_fits = c.in_ok-chip.ensures.fits;
+  ranges = rw c.as_slice-2.ensures at c.in_ok-chip.ensures.ranges;
+  closes = rw c.as_slice.ensures at c.in_ok-chip.ensures.closes;
+}
