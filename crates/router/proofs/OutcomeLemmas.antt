@@ -1,15 +1,13 @@
 -- The outcome of told files is one: one refusal, but for the count of a file that is too long, and no refusal where there is a design.
-use Rattle.std.proofs.Common.{◌≡◌, ◌≢◌, ◌⊎◌, inl, inr, ℕ, ◌<◌, ◌≤◌, List, [], ◌∷◌, Option, Some, None, Result, Ok, Err, length, refl, sym, subst, ap, ◌∙◌, arith}
-use Rattle.std.specs.FinMap.{get}
+use Rattle.std.proofs.Common.{◌≡◌, ◌⊎◌, inl, inr, ℕ, ◌<◌, ◌≤◌, List, [], ◌∷◌, Option, Some, None, Ok, Err, length, refl, sym, subst, ap, ◌∙◌, arith}
 use Rattle.std.proofs.lemmas.Bool.{cases_lt}
 use Rattle.std.proofs.lemmas.Option.{same_Some}
 use Rattle.rt_base.specs.declared.scan.ScanError.{ScanError}
-use Rattle.rt_base.specs.declared.token.Token.{Token}
 use Rattle.rt_base.specs.Scan.{Reads, IsCutInto}
 use Rattle.rt_base.proofs.Scanning.{reads_same}
-use Rattle.rt_forms.specs.Lexeme.{Lexeme, End, lexemes, places, last_line}
+use Rattle.rt_forms.specs.Lexeme.{End, lexemes, places, last_line}
 use Rattle.rt_forms.specs.Clauses.{IsText, IsRefused}
-use Rattle.rt_forms.proofs.Laws.{Lawful, one_value, one_fault, no_fault, ok_is}
+use Rattle.rt_forms.proofs.Laws.{one_value, one_fault, no_fault, ok_is}
 use Rattle.track_graph.specs.declared.design.Design.{Design}
 use Rattle.lef_text.specs.declared.error.LefError.{LefError}
 use Rattle.lef_text.specs.declared.error.LefError.TheVariants.{Scan as LefScan}
@@ -34,9 +32,9 @@ use Rattle.build.specs.declared.error.BuildError.{BuildError}
 use Rattle.build.specs.Refusals.{Gives, Refuses}
 use Rattle.build.proofs.Uniqueness.{one_refusal, no_refusal}
 use Rattle.shelf.specs.Faults.{HasRisen}
-use Rattle.shelf.specs.Shelf.{Files, HoldsBytes, HoldsAtLeast}
+use Rattle.shelf.specs.Shelf.{Files, HoldsBytes}
 use Rattle.router.specs.declared.run.Done.{Done}
-use Rattle.router.specs.Outputs.{ShelfView, SinkView}
+use Rattle.router.specs.Outputs.{ShelfView}
 use Rattle.router.specs.Runs.{Moment, Cause, Runs, AnswersExactly}
 use Rattle.router.specs.declared.refusal.Refusal.{Refusal}
 use Rattle.router.specs.declared.refusal.Refusal.TheVariants.{Words, LefBytes, DefBytes, GuideBytes, Lef, Def, Guide, Build, Read, Write, Memory}

@@ -1,11 +1,8 @@
 -- From what the readers answer to the outcome of the texts.
-use Rattle.std.proofs.Common.{◌≡◌, ◌≢◌, ◌⊎◌, inl, inr, ℕ, ◌<◌, ◌≤◌, Result, Ok, Err, IfSome, List, [], ◌∷◌, Option, Some, None, length, get_or, refl, sym, subst, ap, ◌∙◌, zero, suc, arith}
-use Rattle.std.specs.Prelude.{⊤, ℤ, unwrap_or, All, AllPairs}
+use Rattle.std.proofs.Common.{◌≡◌, ◌≢◌, ◌⊎◌, inl, inr, ℕ, ◌<◌, ◌≤◌, Err, IfSome, List, [], ◌∷◌, Option, Some, None, length, get_or, refl, sym, subst, ap, ◌∙◌, zero, suc, arith}
+use Rattle.std.specs.Prelude.{ℤ, unwrap_or}
 use Rattle.std.specs.List.{AllZip}
 use Rattle.track_graph.specs.declared.design.Net.{Net}
-use Rattle.track_graph.specs.Levels.{TrackSystem}
-use Rattle.lef_text.specs.declared.lef.Lef.{Lef as LefValue}
-use Rattle.def_text.specs.declared.def.Def.{Def as DefValue}
 use Rattle.def_text.specs.Defs.{AreCloses as DefCloses}
 use Rattle.def_out.specs.Conditions.{AreCloses}
 use Rattle.build.specs.Built.{IsDesignOf}
@@ -26,7 +23,6 @@ use Rattle.router.specs.declared.refusal.Refusal.TheVariants.{Words, LefBytes, D
 use Rattle.router.specs.declared.source.Source.{Source}
 use Rattle.router.specs.declared.read.Texts.{Texts}
 use Rattle.router.specs.Refusals.{of_lef, of_def, of_guide, of_build}
-use Rattle.router.specs.declared.source.SourceFault.{SourceFault}
 use Rattle.rt_forms.specs.Lexeme.{lexemes}
 use Rattle.rt_forms.specs.Clauses.{IsRefused}
 use Rattle.track_graph.specs.declared.design.Design.{Design}
@@ -41,7 +37,7 @@ use Rattle.build.specs.Refusals.{Gives, Refuses}
 use Rattle.build.specs.TrackLines.{default_tile_of}
 use Rattle.router.specs.Words.{CommandLine}
 use Rattle.router.specs.Refusals.{lef_most, def_most, guide_most}
-use Rattle.router.specs.Outcomes.{IsSource, IsTooLong, IsUncut, IsDefFileRefusal, IsDefRefusal, IsTextRefusal, SayBoth, IsGuideRefusal, AreGuidesOf, input_from, options_of, IsBuildRefusal, IsDesigned, IsFirstRefusal, AreHeld}
+use Rattle.router.specs.Outcomes.{IsSource, IsDefFileRefusal, IsDefRefusal, IsTextRefusal, SayBoth, IsGuideRefusal, AreGuidesOf, input_from, options_of, IsBuildRefusal, IsDesigned, IsFirstRefusal, AreHeld}
 use Rattle.router.specs.Outputs.{ShelfView}
 use Rattle.router.specs.Runs.{Cause}
 use Rattle.router.specs.Made.{IsReady}

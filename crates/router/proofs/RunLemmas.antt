@@ -1,5 +1,5 @@
 -- How a run ends: what its steps come to in the promise of the whole.
-use Rattle.std.proofs.Common.{◌≡◌, ◌≢◌, ◌⊎◌, inl, inr, ℕ, ◌+◌, ◌<◌, ◌≤◌, List, [], Option, Some, None, min, refl, sym, ap, subst, ◌∙◌, arith, true, false, cond, Bool, lit≤, Result, Ok, Err}
+use Rattle.std.proofs.Common.{◌≡◌, ◌≢◌, ◌⊎◌, inl, inr, ℕ, ◌≤◌, List, [], Option, Some, None, refl, sym, ap, subst, ◌∙◌, arith, true, false, Bool, lit≤, Result, Ok, Err}
 use Rattle.std.specs.Prelude.{OnOk, IfErr, IsErrOf}
 use Rattle.shelf.specs.declared.fault.SayFault.{SayFault}
 use Rattle.shelf.specs.declared.fault.SayFault.TheVariants.{Failed as SayFailed, Memory as SayMemory}
@@ -15,7 +15,7 @@ use Rattle.journal_text.specs.Lines.{journal_lines}
 use Rattle.report.specs.Lines.{report_text}
 use Rattle.build.specs.declared.error.BuildError.{BuildError}
 use Rattle.build.specs.declared.error.BuildError.TheVariants.{Scale, NoMacro, NoComponent, NoPin, NoLayer, NoNet, PinTwice, Wiring, NoTracks, Limit, Memory as BuildMemory}
-use Rattle.shelf.specs.Faults.{HasRisen, counted, count_end}
+use Rattle.shelf.specs.Faults.{HasRisen}
 use Rattle.shelf.specs.Shelf.{Files, with_file, IsCutShort}
 use Rattle.router.specs.declared.outputs.Outputs.{Outputs}
 use Rattle.router.specs.declared.run.Done.{Done}
@@ -26,9 +26,9 @@ use Rattle.router.specs.Refusals.{status_of, build_status}
 use Rattle.router.specs.ErrorLines.{error_line}
 use Rattle.router.specs.Outcomes.{IsDesigned, IsGuideFileRefusal, IsGuideRefusal, IsFirstRefusal}
 use Rattle.router.specs.Outputs.{ShelfView, SinkView, with_outputs, IsPartlyPut, IsPutFault, Says}
-use Rattle.router.specs.Runs.{Moment, Cause, has_unrouted, routed_text, routed_status, IsRouting, IsRouted, IsRefused, IsUnwritten, IsPutFailed, IsSayFailed, IsPartlyWritten, IsOutOfMemory, SaysMemory, RefusesWords, Runs}
+use Rattle.router.specs.Runs.{Moment, Cause, has_unrouted, routed_text, routed_status, IsRouting, IsRouted, IsRefused, IsUnwritten, IsPutFailed, IsSayFailed, IsOutOfMemory, SaysMemory, RefusesWords, Runs}
 use Rattle.router.specs.Made.{AreOutputs}
-use Rattle.router.specs.Steps.{SaysRefusal, IsUnputFile, IsUnput, EndsSaid, EndsRefused, EndsWritten, EndsUnwritten, EndsOutOfMemory, Ends}
+use Rattle.router.specs.Steps.{SaysRefusal, IsUnputFile, IsUnput, EndsSaid, EndsRefused, Ends}
 
 -- ---- counts of faults
 

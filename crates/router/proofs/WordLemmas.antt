@@ -1,5 +1,5 @@
 -- Words that are looked for one by one: where the search ends, and how it goes on.
-use Rattle.std.proofs.Common.{◌≡◌, ◌⊎◌, inl, inr, ℕ, zero, suc, ◌+◌, ◌-◌, ◌<◌, ◌≤◌, List, [], ◌∷◌, length, get_or, refl, sym, subst, ap, ◌∙◌, Option, Some, None, Ok, ℤ, pos, Bool, true, false, String, string_bytes, arith}
+use Rattle.std.proofs.Common.{◌≡◌, inl, inr, ℕ, zero, suc, ◌+◌, ◌-◌, ◌<◌, ◌≤◌, List, [], ◌∷◌, length, get_or, refl, sym, subst, ap, ◌∙◌, Option, Some, None, Ok, ℤ, pos, Bool, true, false, String, string_bytes, arith}
 use Rattle.std.specs.Prelude.{if◌then◌else◌, ◌||◌, option_map, unwrap_or}
 use Rattle.std.specs.List.{find, list_any, range_with_len}
 use Rattle.std.specs.Global.{Global}

@@ -10,7 +10,6 @@ use Rattle.lef_text.specs.declared.lef.Lef.{Lef as LefValue}
 use Rattle.lef_text.specs.declared.error.LefError.TheVariants.{Scan as LefScan}
 use Rattle.lef_text.specs.Faults.{lef_faults}
 use Rattle.lef_text.specs.Lef.{lef as lef_form}
-use Rattle.def_text.specs.declared.def.Def.{Def as DefValue}
 use Rattle.def_text.specs.declared.error.DefError.{DefError}
 use Rattle.def_text.specs.declared.error.DefError.TheVariants.{Scan as DefScan}
 use Rattle.def_text.specs.Clauses.{Begins}

@@ -12,7 +12,7 @@ use Rattle.def_out.specs.Wiring.{routed_def}
 use Rattle.journal_text.specs.Lines.{journal_lines}
 use Rattle.report.specs.Lines.{is_open, is_unguided, report_text}
 use Rattle.shelf.specs.Faults.{HasRisen}
-use Rattle.shelf.specs.Shelf.{Files, with_file, IsCutShort}
+use Rattle.shelf.specs.Shelf.{Files}
 use Rattle.shelf.specs.Sink.{with_more, IsPartlySaid}
 use Rattle.router.specs.declared.run.Done.{Done}
 use Rattle.router.specs.declared.refusal.Refusal.{Refusal}

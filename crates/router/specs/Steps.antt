@@ -1,7 +1,7 @@
 -- The steps of a run: a refusal that is said, outputs that are put, and the report.
-use Rattle.std.specs.Prelude.{◌≡◌, ◌⊎◌, ℕ, List, [], Option}
+use Rattle.std.specs.Prelude.{◌≡◌, ◌⊎◌, ℕ, List, []}
 use Rattle.shelf.specs.Faults.{HasRisen}
-use Rattle.shelf.specs.Shelf.{Files, IsCutShort}
+use Rattle.shelf.specs.Shelf.{IsCutShort}
 use Rattle.shelf.specs.Sink.{with_more, IsPartlySaid}
 use Rattle.track_graph.specs.declared.history.Block.{Block}
 use Rattle.router.specs.declared.outputs.Outputs.{Outputs}

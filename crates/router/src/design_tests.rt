@@ -1,5 +1,5 @@
 //! Designs under the command's words: what is routed, and what is refused.
-use crate::tests::{HEAD, LEF, Ran, run_words};
+use crate::tests::{DEF, HEAD, LEF, Ran, first_lines, route, run_words};
 use std::alloc::{AllocError, Global};
 use std::test::Fail;
 
@@ -557,5 +557,62 @@ fn guides_are_a_file(rt: HostRuntime) -> Result<(), Fail> {
         let ran = run_words(alloc, words, files_of(alloc, &case)?, fails, &[])?;
         assert_eq!(rt; ran.out.text(), *says);
     }
+    Ok(())
+}
+
+/// Behind the text, for each of these names, the parts with the name behind each of them.
+fn with_names(
+    alloc: Global,
+    text: &[u8],
+    parts: &[&[u8]],
+    names: &[u8],
+) -> Result<Vec<u8>, AllocError> {
+    let mut named = Vec::from_slice(alloc, text)?;
+    for name in names {
+        push_named(&mut named, parts, *name)?;
+    }
+    Ok(named)
+}
+
+fn push_named(text: &mut Vec<u8>, parts: &[&[u8]], name: u8) -> Result<(), AllocError> {
+    for part in parts {
+        text.extend_from_slice(part)?;
+        text.push(name)?;
+    }
+    Ok(())
+}
+
+/// Two routing layers.
+const LAYERS: &[&[u8]] = &[
+    b"\nLAYER h",
+    b" TYPE ROUTING ; DIRECTION HORIZONTAL ; WIDTH 0.1 ; SPACING 0.1 ; END h",
+    b"\nLAYER v",
+    b" TYPE ROUTING ; DIRECTION VERTICAL ; WIDTH 0.1 ; SPACING 0.1 ; END v",
+];
+
+/// A via that may be used.
+const VIA: &[&[u8]] = &[
+    b"\nVIA ",
+    b" DEFAULT LAYER M1 ; RECT 0 0 0.1 0.1 ; LAYER C1 ; RECT 0 0 0.1 0.1 ; LAYER M2 ; RECT 0 0 0.1 0.1 ; END ",
+];
+
+const NAMES: &[u8] = b"ABCDEFGHIJKLMNOPQRSTUVWXYZabcdefghijklmnopqrstuvwxyz0123456789_=";
+
+#[test]
+fn limits_of_lef(rt: HostRuntime) -> Result<(), Fail> {
+    let alloc = rt.alloc();
+    let layers = with_names(
+        alloc,
+        b"UNITS DATABASE MICRONS 1000 ; END UNITS",
+        LAYERS,
+        b"ABCDEFGHI",
+    )?;
+    let tracks =
+        b"UNITS DISTANCE MICRONS 1000 ;\nDIEAREA ( 0 0 ) ( 9 9 ) ;\nTRACKS X 0 DO 1 STEP 1 ;\nTRACKS Y 0 DO 1 STEP 1 ;\nEND DESIGN\n";
+    let ran = route(alloc, &layers, tracks)?;
+    assert!(rt; ran.out.text() == b"error 7 limit routing-layers 18 16\n".as_slice());
+    let vias = with_names(alloc, &first_lines(alloc, LEF, 30)?, VIA, NAMES)?;
+    let ran = route(alloc, &vias, DEF)?;
+    assert!(rt; ran.out.text() == b"error 7 limit usable-vias 65 64\n".as_slice());
     Ok(())
 }

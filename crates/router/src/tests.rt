@@ -39,7 +39,7 @@ END LIBRARY
 ";
 
 /// A net of two pins.
-const DEF: &[u8] = b"\
+pub const DEF: &[u8] = b"\
 VERSION 5.8 ;
 DESIGN top ;
 UNITS DISTANCE MICRONS 1000 ;
@@ -648,7 +648,7 @@ fn single_changes_are_refused(rt: HostRuntime) -> Result<(), Fail> {
 }
 
 /// The first lines of a text.
-fn first_lines(alloc: Global, text: &[u8], count: u32) -> Result<Vec<u8>, AllocError> {
+pub fn first_lines(alloc: Global, text: &[u8], count: u32) -> Result<Vec<u8>, AllocError> {
     let mut first = Vec::new(alloc);
     let mut line = 1_u32;
     for byte in text {

@@ -1,5 +1,3 @@
-use Rattle.std.proofs.Common.{◌≡◌, ◌++◌, codes, OnOk}
-use Rattle.router.specs.ErrorLines.{with_number, def_text}
 use Rattle.router.proofs.lines.def_text.Goals as goal
 
 pub returns-in-DiePolygon : goal.returns-in-DiePolygon

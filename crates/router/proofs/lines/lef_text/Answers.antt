@@ -1,5 +1,3 @@
-use Rattle.std.proofs.Common.{◌≡◌, ◌++◌, codes, OnOk}
-use Rattle.router.specs.ErrorLines.{with_names, lef_text}
 use Rattle.router.proofs.lines.lef_text.Goals as goal
 
 pub returns-in-LayerWithout : goal.returns-in-LayerWithout

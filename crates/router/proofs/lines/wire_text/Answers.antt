@@ -1,5 +1,3 @@
-use Rattle.std.proofs.Common.{◌≡◌, ◌++◌, codes, OnOk}
-use Rattle.router.specs.ErrorLines.{with_number, wire_text}
 use Rattle.router.proofs.lines.wire_text.Goals as goal
 
 pub returns-in-NoSuchLayer : goal.returns-in-NoSuchLayer

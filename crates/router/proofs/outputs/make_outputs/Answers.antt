@@ -1,8 +1,6 @@
-use Rattle.std.proofs.Common.{◌≡◌, IfOk, refl, ap, ◌∙◌}
-use Rattle.track_graph.specs.Histories.{IsHistory}
+use Rattle.std.proofs.Common.{refl, ap, ◌∙◌}
 use Rattle.def_out.specs.Wiring.{routed_def}
 use Rattle.router.specs.Runs.{routed_status}
-use Rattle.router.specs.Made.{AreOutputs}
 use Rattle.router.proofs.outputs.make_outputs.Goals as goal
 
 pub finish-requires-clause-history : goal.finish-requires-clause-history

@@ -1,11 +1,9 @@
-use Rattle.std.proofs.Common.{◌≡◌, ◌≢◌, IfErr, IfOk, ap}
+use Rattle.std.proofs.Common.{ap}
 use Rattle.std.proofs.lemmas.Result.{err_from_is_err_and}
 use Rattle.rt_base.proofs.Scanning.{made_inside}
 use Rattle.std.specs.Option.{option_copied}
 use Rattle.router.specs.Words.{asked_by}
-use Rattle.router.specs.Outcomes.{IsBuildRefusal}
 use Rattle.track_graph.specs.declared.design.Options.{Options}
-use Rattle.router.specs.Made.{IsReady}
 use Rattle.router.proofs.ReadLemmas.{build_refusal, ready_of}
 use Rattle.router.proofs.read.design_of.Goals as goal
 

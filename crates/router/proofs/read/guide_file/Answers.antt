@@ -1,8 +1,5 @@
-use Rattle.std.proofs.Common.{◌≡◌, ◌≢◌, ◌≤◌, ◌∙◌, IfErr, IfOk}
 use Rattle.std.proofs.lemmas.Result.{err_from_is_err_and}
-use Rattle.router.specs.Outcomes.{IsGuideFile}
 use Rattle.router.specs.Outputs.{shelf_at}
-use Rattle.router.specs.Sources.{IsGuideFileCause}
 use Rattle.router.proofs.ReadLemmas.{says_cause}
 use Rattle.router.proofs.read.guide_file.Goals as goal
 

@@ -1,7 +1,5 @@
-use Rattle.std.proofs.Common.{◌≡◌, ◌≢◌, IfErr, IfOk}
 use Rattle.std.proofs.lemmas.Result.{err_from_is_err_and}
 use Rattle.rt_base.proofs.Scanning.{made_inside}
-use Rattle.router.specs.Sources.{SaysNoGuides}
 use Rattle.router.proofs.ReadLemmas.{guide_refusal}
 use Rattle.router.proofs.read.guides_of.Goals as goal
 

@@ -1,7 +1,6 @@
-use Rattle.std.proofs.Common.{◌≡◌, ◌≢◌, inl, IfErr, IfOk}
+use Rattle.std.proofs.Common.{inl}
 use Rattle.std.proofs.lemmas.Result.{err_from_is_err_and}
 use Rattle.rt_base.proofs.Scanning.{made_inside}
-use Rattle.router.specs.Outcomes.{IsTextRefusal, SaysLef}
 use Rattle.router.proofs.ReadLemmas.{def_refusal, lef_refusal, lef_refused}
 use Rattle.router.proofs.read.lef_of.Goals as goal
 

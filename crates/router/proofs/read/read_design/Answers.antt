@@ -1,9 +1,7 @@
-use Rattle.std.proofs.Common.{◌≡◌, ◌≢◌, ◌≤◌, ◌∙◌, IfErr, IfOk, ap}
+use Rattle.std.proofs.Common.{◌∙◌, ap}
 use Rattle.std.proofs.lemmas.Result.{err_from_is_err_and}
 use Rattle.router.specs.Words.{asked_by, guide_of}
 use Rattle.router.specs.Outputs.{shelf_at}
-use Rattle.router.specs.Outcomes.{IsDesigned}
-use Rattle.router.specs.Runs.{Cause}
 use Rattle.router.proofs.ReadLemmas.{lef_cause, def_cause, text_cause, guide_cause, build_cause, sources_of, grown, designed_of, guides_read, lef_count, both_counts, guide_count}
 use Rattle.router.proofs.read.read_design.Goals as goal
 

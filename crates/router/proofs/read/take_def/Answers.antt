@@ -1,6 +1,5 @@
-use Rattle.std.proofs.Common.{◌≡◌, refl, IfErr}
+use Rattle.std.proofs.Common.{refl}
 use Rattle.router.specs.Outputs.{shelf_at}
-use Rattle.router.specs.Sources.{IsDefFileCause}
 use Rattle.router.proofs.ReadLemmas.{unread_def}
 use Rattle.router.proofs.read.take_def.Goals as goal
 

@@ -1,6 +1,5 @@
-use Rattle.std.proofs.Common.{◌≡◌, refl, inl, IfErr}
+use Rattle.std.proofs.Common.{refl, inl}
 use Rattle.router.specs.Outputs.{shelf_at}
-use Rattle.router.specs.Sources.{IsGuideFileCause}
 use Rattle.router.proofs.ReadLemmas.{unread_guide}
 use Rattle.router.proofs.read.take_guide.Goals as goal
 

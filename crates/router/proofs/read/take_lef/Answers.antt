@@ -1,6 +1,5 @@
-use Rattle.std.proofs.Common.{◌≡◌, refl, IfErr}
+use Rattle.std.proofs.Common.{refl}
 use Rattle.router.specs.Outputs.{shelf_at}
-use Rattle.router.specs.Sources.{IsLefFileCause}
 use Rattle.router.proofs.ReadLemmas.{unread_lef}
 use Rattle.router.proofs.read.take_lef.Goals as goal
 

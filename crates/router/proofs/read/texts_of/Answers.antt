@@ -1,7 +1,5 @@
-use Rattle.std.proofs.Common.{◌≡◌, ◌≢◌, inr, IfErr, IfOk}
+use Rattle.std.proofs.Common.{inr}
 use Rattle.std.proofs.lemmas.Result.{err_from_is_err_and}
-use Rattle.router.specs.Outcomes.{IsTextRefusal, SayBoth}
-use Rattle.router.specs.Sources.{AreReadable}
 use Rattle.router.proofs.ReadLemmas.{def_refusal}
 use Rattle.router.proofs.read.texts_of.Goals as goal
 

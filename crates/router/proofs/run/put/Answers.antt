@@ -1,6 +1,4 @@
-use Rattle.std.proofs.Common.{◌≡◌, refl, inl}
-use Rattle.router.specs.Outputs.{shelf_at}
-use Rattle.router.specs.Steps.{IsUnputFile}
+use Rattle.std.proofs.Common.{refl, inl}
 use Rattle.router.proofs.RunLemmas.{unput_file}
 use Rattle.router.proofs.run.put.Goals as goal
 

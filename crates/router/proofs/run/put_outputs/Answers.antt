@@ -1,8 +1,6 @@
-use Rattle.std.proofs.Common.{◌≡◌, ◌≤◌, IfErr, OnOk}
 use Rattle.std.proofs.lemmas.Result.{err_from_is_err_and}
 use Rattle.router.specs.Words.{asked_by}
-use Rattle.router.specs.Outputs.{shelf_at, with_outputs}
-use Rattle.router.specs.Steps.{IsUnput}
+use Rattle.router.specs.Outputs.{shelf_at}
 use Rattle.router.proofs.RunLemmas.{unput_out, behind_put, put_both}
 use Rattle.router.proofs.run.put_outputs.Goals as goal
 

@@ -1,8 +1,7 @@
-use Rattle.std.proofs.Common.{◌≡◌, refl}
+use Rattle.std.proofs.Common.{refl}
 use Rattle.router.specs.Words.{asked_by}
 use Rattle.router.specs.Outputs.{shelf_at, sink_at}
-use Rattle.router.specs.Made.{AreOutputs}
-use Rattle.router.specs.Runs.{moment_at, Runs}
+use Rattle.router.specs.Runs.{moment_at}
 use Rattle.router.specs.declared.refusal.Refusal.TheVariants.{Memory}
 use Rattle.router.proofs.RunLemmas.{runs_refused, runs_ended, ends_from}
 use Rattle.router.proofs.run.run_route.Goals as goal

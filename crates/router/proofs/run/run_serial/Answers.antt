@@ -1,6 +1,6 @@
-use Rattle.std.proofs.Common.{◌≡◌, IfOk, IfErr, refl}
+use Rattle.std.proofs.Common.{refl}
 use Rattle.router.specs.Outputs.{shelf_at, sink_at}
-use Rattle.router.specs.Runs.{moment_at, RefusesWords, Runs}
+use Rattle.router.specs.Runs.{moment_at}
 use Rattle.router.specs.Words.{asked_by}
 use Rattle.router.proofs.OutcomeLemmas.{answers_exactly}
 use Rattle.router.proofs.RunLemmas.{words_refused}

@@ -1,6 +1,4 @@
-use Rattle.std.proofs.Common.{◌≡◌}
 use Rattle.router.specs.Outputs.{sink_at}
-use Rattle.router.specs.Runs.{SaysMemory}
 use Rattle.router.proofs.RunLemmas.{said_memory, memory_line}
 use Rattle.router.proofs.run.say_memory.Goals as goal
 

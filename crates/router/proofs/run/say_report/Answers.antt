@@ -1,6 +1,5 @@
-use Rattle.std.proofs.Common.{◌≡◌, refl, inl, inr}
+use Rattle.std.proofs.Common.{refl, inl, inr}
 use Rattle.router.specs.Outputs.{sink_at}
-use Rattle.router.specs.Steps.{EndsSaid}
 use Rattle.router.proofs.RunLemmas.{memory_behind}
 use Rattle.router.proofs.run.say_report.Goals as goal
 

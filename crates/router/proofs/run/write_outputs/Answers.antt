@@ -1,8 +1,5 @@
-use Rattle.std.proofs.Common.{◌≡◌}
 use Rattle.router.specs.Words.{asked_by}
-use Rattle.router.specs.Outputs.{with_outputs}
 use Rattle.router.specs.Runs.{moment_at}
-use Rattle.router.specs.Steps.{Ends, EndsSaid, IsUnput}
 use Rattle.router.proofs.RunLemmas.{ends_said, ends_unput}
 use Rattle.router.proofs.run.write_outputs.Goals as goal
 

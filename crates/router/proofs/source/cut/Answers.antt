@@ -1,6 +1,4 @@
-use Rattle.std.proofs.Common.{◌≡◌, ◌≢◌, Err, IfErr}
 use Rattle.std.proofs.lemmas.Result.{err_from_is_err_and}
-use Rattle.rt_base.specs.Scan.{Reads}
 use Rattle.router.proofs.ReadLemmas.{scan_refused}
 use Rattle.router.proofs.source.cut.Goals as goal
 

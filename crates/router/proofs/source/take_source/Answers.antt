@@ -1,7 +1,5 @@
-use Rattle.std.proofs.Common.{◌≡◌, ◌≤◌, Err, IfErr, IfOk, ap, length, arith}
+use Rattle.std.proofs.Common.{◌≤◌, Err, ap, length, arith}
 use Rattle.std.proofs.lemmas.Result.{err_from_is_err_and}
-use Rattle.router.specs.Outcomes.{IsSource}
-use Rattle.router.specs.Sources.{IsSourceFault}
 use Rattle.router.proofs.ReadLemmas.{take_fault, scan_fault, source_of}
 use Rattle.router.proofs.source.take_source.Goals as goal
 

@@ -1,4 +1,4 @@
-use Rattle.std.proofs.Common.{◌≡◌, ◌≤◌, sym, length, None}
+use Rattle.std.proofs.Common.{sym}
 use Rattle.router.proofs.WordLemmas.{six_words}
 use Rattle.router.proofs.words.fault_of.Goals as goal
 

@@ -1,5 +1,5 @@
-use Rattle.std.proofs.Common.{◌≡◌, ◌+◌, ◌∙◌, length, sym}
-use Rattle.router.specs.Words.{word_texts, is_sought, first_word}
+use Rattle.std.proofs.Common.{◌+◌, ◌∙◌, length, sym}
+use Rattle.router.specs.Words.{word_texts, is_sought}
 use Rattle.router.proofs.WordLemmas.{find_on}
 use Rattle.router.proofs.words.first_word.Goals as goal
 

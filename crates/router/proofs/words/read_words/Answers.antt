@@ -1,5 +1,5 @@
-use Rattle.std.proofs.Common.{◌≡◌, ◌∙◌, ◌<◌, ap, arith, refl, length, string_bytes, Ok}
-use Rattle.router.specs.Words.{word_texts, command_of, asked_by}
+use Rattle.std.proofs.Common.{◌∙◌, ap, arith, refl, string_bytes}
+use Rattle.router.specs.Words.{word_texts}
 use Rattle.router.proofs.WordLemmas.{word_get, says_line}
 use Rattle.router.proofs.words.read_words.Goals as goal
 

@@ -1,6 +1,6 @@
-use Rattle.std.proofs.Common.{◌≡◌, ◌&&◌, ◌∙◌, sym, bytes_eq}
+use Rattle.std.proofs.Common.{◌&&◌, ◌∙◌, sym, bytes_eq}
 use Rattle.router.specs.Words.{word_texts, word, is_at}
-use Rattle.router.proofs.WordLemmas.{any_here, any_on, any_end}
+use Rattle.router.proofs.WordLemmas.{any_on}
 use Rattle.router.proofs.words.stands_before.Goals as goal
 
 pub loop-m-preserved : goal.loop-m-preserved
