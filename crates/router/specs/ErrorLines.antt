@@ -88,7 +88,6 @@ def_text (def.Unended line) = with_number (codes "unended") line
 def_text (def.Count name said found) = with_numbers (with_name (codes "count") name) said found
 def_text (def.DiePolygon line) = with_number (codes "die-polygon") line
 def_text (def.Missing what) = with_name (codes "missing") what
-def_text (def.NotYet line) = with_number (codes "not-yet") line
 def_text def.Memory = codes "memory"
 
 abbrev pub guide_text : GuideError → List ℕ

@@ -166,7 +166,6 @@ fn def_text(text: &mut Text, error: &DefError) -> Result<(), Memory>
         } => with_name_numbers(text, b"count", section.bytes(), *said, *found),
         DefError::DiePolygon { line } => with_number(text, b"die-polygon", u64::from(*line)),
         DefError::Missing { what } => with_name(text, b"missing", what.bytes()),
-        DefError::NotYet { line } => with_number(text, b"not-yet", u64::from(*line)),
         DefError::Memory => text.bytes(b"memory"),
     }
 }
