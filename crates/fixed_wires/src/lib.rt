@@ -1,6 +1,7 @@
 //! The vias and the wiring of nets that DEF brings along, with what LEF says.
 #![tactic(auto)]
 
+mod ranges;
 mod vias;
 mod wires;
 

@@ -7,8 +7,9 @@ ghost use Rattle.def_wires.specs.Names.{AreNamesOf};
 ghost use Rattle.def_wires.specs.Sound.{IsOn, IsTech};
 ghost use Rattle.fixed_wires.specs.FixedWires.{wires_fault, wires_metal};
 
+use crate::ranges::{append, range_of};
 use crate::vias::WireTech;
-use def_wires::WireFault;
+use def_wires::{WireFault, denote, read_wiring};
 use rt_base::{LayerNo, Rect, Seq, Token};
 use std::alloc::Global;
 
@@ -31,5 +32,11 @@ pub fn wires_metal(
     ensures read { MatchResult result (λ m. (wires_fault on.now.tech text.now tokens.now special ranges.now ≡ None) × (m ≡ wires_metal on.now.tech text.now tokens.now special ranges.now)) (λ e. e ≢ OutOfMemory → wires_fault on.now.tech text.now tokens.now special ranges.now ≡ Some e) }
     ensures within { IfOk result (λ m. All (IsOn (length on.now.tech.layers) (2 ^ 62)) m) }
 {
-    Err(WireFault::Memory)
+    let mut metal = Seq::new(alloc);
+    'parts: for range in ranges {
+        let tokens = range_of(tokens, *range);
+        let wiring = read_wiring(alloc, text, tokens, &on.tech, &on.names, special)?;
+        append(&mut metal, denote(alloc, &wiring, &on.tech)?)?;
+    }
+    Ok(metal)
 }
