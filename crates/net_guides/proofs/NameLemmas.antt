@@ -1,11 +1,12 @@
 -- Items by their names.
-use Rattle.std.proofs.Common.{◌≡◌, ◌≢◌, ℕ, zero, suc, ◌+◌, ◌<◌, List, [], ◌∷◌, ◌++◌, Bool, true, false, ◌||◌, cond, Option, Some, None, is_some, not, position, map, AllPairs, length, get_or, take, slice_get, option_and_then, bytes_eq, refl, sym, ap, subst, ◌∙◌, inl, inr, arith}
+use Rattle.std.proofs.Common.{◌≡◌, ◌≢◌, ℕ, zero, suc, ◌+◌, ◌<◌, ◌≤◌, List, [], ◌∷◌, ◌++◌, Bool, true, false, ◌||◌, cond, Option, Some, None, is_some, not, position, map, AllPairs, length, get_or, take, slice_get, option_and_then, bytes_eq, refl, sym, ap, subst, ◌∙◌, inl, inr, arith}
 use Rattle.std.specs.List.{cons_option, filter, filter_map, find, list_any, position_from, position_or_len}
 use Rattle.std.proofs.lemmas.Bool.{cases_Bool, cases_lt, lt-ltb, le-ltb, both_ways}
 use Rattle.std.proofs.lemmas.Option.{slice_get_past}
 use Rattle.std.specs.Option.{option_to_list}
 use Rattle.std.proofs.lemmas.List.{append-nil, take_more, map_push, get_or-map, length-map}
 use Rattle.std.proofs.lemmas.List.Elements.{filter_more, filter_map-append}
+use Rattle.std.proofs.lemmas.List.Filters.{length-filter_both}
 use Rattle.std.proofs.lemmas.List.Folds.{find_at}
 use Rattle.std.proofs.lemmas.Iterator.Adapters.{position_from-zero}
 use Rattle.rt_words.proofs.Words.{unequal}
@@ -116,3 +117,9 @@ boxes_more levels boxes i box o within at is =
     alone : (p : Option (ℕ × Sides)) → cons_option p [] ≡ option_to_list p
     alone None = refl
     alone (Some b) = refl
+
+-- no more levels than layers
+pub level_count : (layers : List Layer) → length (level_names layers) ≤ length layers
+level_count layers =
+    omega
+    (arith, length-map (filter (λ (l : Layer). l.routing) layers) (λ (l : Layer). l.name), length-filter_both (λ (l : Layer). l.routing) (λ (l : Layer). not l.routing) (λ l. refl) layers)

@@ -2,5 +2,7 @@
 #![tactic(auto)]
 
 mod index;
+#[cfg(test)]
+mod tests;
 
 pub use index::NetGuides;
