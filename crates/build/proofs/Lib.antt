@@ -1,0 +1,16 @@
+pub mod Ascending
+pub mod Assembling
+pub mod CellLemmas
+pub mod DesignLemmas
+pub mod FaultSteps
+pub mod FirstFaults
+pub mod KnownLemmas
+pub mod MetalLemmas
+pub mod NameSteps
+pub mod Steps
+pub mod TechLemmas
+pub mod TileLemmas
+pub mod TrackLemmas
+pub mod Uniqueness
+pub mod WireLemmas
+pub mod GuideLemmas

@@ -1,8 +1,15 @@
 pub mod Built
 pub mod Faults
+pub mod Findings
+pub mod Ground
+pub mod Indexes
+pub mod Indexing
 pub mod Inputs
+pub mod Lines
 pub mod LookUps
+pub mod Metals
 pub mod Refusals
 pub mod TrackLines
+pub mod Usable
 pub mod WireErrors
 pub mod Wires

@@ -1,5 +1,5 @@
 //! The design.
-ghost use Rattle.std.specs.Prelude.{◌≡◌, ◌≢◌, ◌≤◌, ◌≤ℤ◌, ◌^◌, pos, length, IfOk, IfErr, IfSome, MatchResult};
+ghost use Rattle.std.specs.Prelude.{◌≡◌, ◌≢◌, ◌≤◌, ◌≤ℤ◌, ◌^◌, pos, All, length, IfOk, IfErr, IfSome, MatchResult, None};
 ghost use Rattle.std.specs.Option.{option_copied};
 ghost use Rattle.rt_base.specs.Tokens.{AllInside};
 ghost use Rattle.track_graph.specs.Designs.{IsDesign, HasEntries};
@@ -8,17 +8,119 @@ ghost use Rattle.def_text.specs.Defs.{IsDef, AreRanges};
 ghost use Rattle.guide_text.specs.IsGuides.{AreGuides};
 ghost use Rattle.track_graph.specs.declared.design.Design.{Design as OfDesign};
 ghost use Rattle.build.specs.declared.error.BuildError.{BuildError as OfError};
-ghost use Rattle.build.specs.Inputs.{input_of};
+ghost use Rattle.build.specs.Built.{IsTechOf, fixed_of, skipped_of};
+ghost use Rattle.build.specs.Faults.{name_fault, count_fault};
+ghost use Rattle.build.specs.Indexing.{IsLookup, IsGuideIndex};
+ghost use Rattle.build.specs.Inputs.{IsInput, input_of, input_by};
+ghost use Rattle.build.specs.Metals.{IsOnLayer};
 ghost use Rattle.build.specs.Refusals.{Gives, Refuses};
 ghost use Rattle.build.specs.declared.error.BuildError.TheVariants.{Memory as OutOfMemory};
 
+use crate::checks::check_names;
+use crate::copies::copy_counts;
 use crate::error::BuildError;
+use crate::given::Given;
+use crate::guide_index::guide_index;
+use crate::level_tracks::tracks;
+use crate::limits::{check_counts, check_sizes};
+use crate::lookup::{Lookup, look_ups};
+use crate::nets::{Ground, nets};
+use crate::shapes::fixed_shapes;
+use crate::technology::technology;
 use def_text::Def;
 use guide_text::Guides;
 use lef_text::Lef;
-use rt_base::Token;
+use net_guides::NetGuides;
+use rt_base::{Grid, Memory, Name, Seq, Shape, Tech, Token};
 use std::alloc::Global;
 use track_graph::{Design, Options};
+
+/// The counts of statements that are read and not used.
+fn skipped(alloc: Global, lef: &Lef, def: &Def) -> Result<Seq<(Name, u32)>, Memory>
+    ensures { IfOk result (λ s. s ≡ skipped_of lef.now def.now) }
+{
+    let mut counts = copy_counts(alloc, lef.skipped.as_slice())?;
+    counts.push((Name::new(alloc, b"NETS")?, def.skipped))?;
+    Ok(counts)
+}
+
+/// The design, where names and counts pass.
+fn assembled(
+    alloc: Global,
+    given: &Given,
+    options: Options,
+    known: &Lookup,
+    index: &NetGuides,
+    tech: Tech,
+    shapes: Vec<Shape>,
+) -> Result<Design, BuildError>
+    requires given { IsInput (input_by given.now) }
+    requires via { options.via ≤ 2 ^ 20 }
+    requires least_tile { pos 1 ≤ℤ options.tile }
+    requires most_tile { options.tile ≤ℤ pos (2 ^ 35) }
+    requires known { IsLookup given.now.lef.now given.now.def.now known.now }
+    requires index { IsGuideIndex (input_by given.now) index.now }
+    requires tech { IsTechOf given.now.lef.now tech }
+    requires shapes { shapes.items ≡ fixed_of (input_by given.now) }
+    requires layers { All (IsOnLayer (length given.now.lef.now.layers)) shapes.items }
+    requires names { name_fault (input_by given.now) ≡ None }
+    requires counts { count_fault (input_by given.now) tech ≡ None }
+    ensures design { IfOk result (Gives (input_by given.now) options) }
+    ensures refusal { IfErr result (λ e. e ≢ OutOfMemory → Refuses (input_by given.now) options e) }
+    ensures fits { IfOk result IsDesign }
+    ensures entries { IfOk result HasEntries }
+{
+    let tracks = tracks(alloc, tech.layers.as_slice(), given.def.tracks.as_slice())?;
+    let on = Ground {
+        given,
+        known,
+        guides: index,
+        tech: &tech,
+        tracks: &tracks,
+    };
+    let nets = nets(alloc, &on, given.def.nets.as_slice())?;
+    let grid = Grid {
+        die: given.def.die,
+        tile: options.tile,
+    };
+    check_sizes(&grid, nets.as_slice(), &shapes)?;
+    let skipped = skipped(alloc, given.lef, given.def)?;
+    Ok(Design {
+        tech,
+        tracks,
+        grid,
+        nets,
+        fixed: Seq::from_vec(shapes),
+        options,
+        skipped,
+    })
+}
+
+/// The design, or the first reason why there is none.
+fn designed(
+    alloc: Global,
+    given: &Given,
+    options: Options,
+    known: &Lookup,
+    index: &NetGuides,
+) -> Result<Design, BuildError>
+    requires given { IsInput (input_by given.now) }
+    requires via { options.via ≤ 2 ^ 20 }
+    requires least_tile { pos 1 ≤ℤ options.tile }
+    requires most_tile { options.tile ≤ℤ pos (2 ^ 35) }
+    requires known { IsLookup given.now.lef.now given.now.def.now known.now }
+    requires index { IsGuideIndex (input_by given.now) index.now }
+    ensures design { IfOk result (Gives (input_by given.now) options) }
+    ensures refusal { IfErr result (λ e. e ≢ OutOfMemory → Refuses (input_by given.now) options e) }
+    ensures fits { IfOk result IsDesign }
+    ensures entries { IfOk result HasEntries }
+{
+    let metal = check_names(alloc, given, known)?;
+    let tech = technology(alloc, given.lef)?;
+    let shapes = fixed_shapes(alloc, given, known, &metal)?;
+    check_counts(given, &tech, &shapes)?;
+    assembled(alloc, given, options, known, index, tech, shapes)
+}
 
 /// The design that LEF and DEF describe, LEF read in DEF's units, under what the user chose; or the
 /// first reason why there is none: units, then names and wiring section by section, each in file
@@ -57,5 +159,14 @@ pub fn build(
     ensures fits { IfOk result IsDesign }
     ensures entries { IfOk result HasEntries }
 {
-    Err(BuildError::Memory)
+    let known = look_ups(alloc, lef, def)?;
+    let index = guide_index(alloc, lef.layers.as_slice(), guides)?;
+    let given = Given {
+        lef,
+        def,
+        text,
+        tokens,
+        guides,
+    };
+    designed(alloc, &given, options, &known, &index)
 }

@@ -1,0 +1,168 @@
+-- What is put together is the design of LEF and DEF, and what keeps it from being one is the first refusal.
+use Rattle.std.proofs.Common.{◌≡◌, ◌≢◌, ◌^◌, ◌<◌, ◌≤◌, ℤ, pos, negsuc, ◌≤ℤ◌, unsigned_abs, FitsSigned, to_z, of_z, w64, List, Some, None, Result, Ok, Err, IfOk, IfErr, IsErrAnd, MatchResult, length, map, All, refl, sym, ap, subst, ◌∙◌, arith}
+use Rattle.std.specs.List.{AllZip}
+use Rattle.std.proofs.lemmas.Result.{err_from_is_err_and}
+use Rattle.rt_base.specs.Sides.{Sides}
+use Rattle.std.proofs.lemmas.Int.{ints, to_z-of_z, fits_signed_from_abs}
+use Rattle.rt_base.specs.declared.grid.Grid.{Grid}
+use Rattle.rt_base.specs.declared.tech.Shape.{Shape}
+use Rattle.rt_base.specs.declared.tech.Layer.{Layer}
+use Rattle.rt_base.specs.declared.tech.Tech.{Tech}
+use Rattle.track_graph.specs.declared.design.Design.{Design}
+use Rattle.track_graph.specs.declared.design.Net.{Net}
+use Rattle.track_graph.specs.declared.design.Options.{Options}
+use Rattle.track_graph.specs.declared.design.Tracks.{Tracks}
+use Rattle.track_graph.specs.Designs.{IsDesign, HasEntries}
+use Rattle.track_graph.specs.Levels.{TrackSystem}
+use Rattle.pin_access.specs.EntryOrder.{system_of}
+use Rattle.def_text.specs.declared.def.Def.{Def}
+use Rattle.def_text.specs.declared.def.DefNet.{DefNet}
+use Rattle.def_text.specs.declared.def.TrackRow.{TrackRow}
+use Rattle.build.specs.declared.error.BuildError.{BuildError}
+use Rattle.build.specs.declared.error.BuildError.TheVariants.{Memory as OutOfMemory}
+use Rattle.net_guides.specs.declared.index.NetGuides.{NetGuides}
+use Rattle.build.specs.declared.lookup.Lookup.{Lookup}
+use Rattle.build.specs.Built.{IsTechOf, IsNetOf, fixed_of, grid_of, skipped_of}
+use Rattle.build.specs.Faults.{name_fault, count_fault, size_fault}
+use Rattle.build.specs.Ground.{AreGrounds, IsBuiltNet}
+use Rattle.build.specs.Indexing.{IsLookup, IsGuideIndex}
+use Rattle.build.specs.Inputs.{Input, IsInput}
+use Rattle.build.specs.Lines.{IsLevel}
+use Rattle.build.specs.Metals.{IsOnLayer}
+use Rattle.build.specs.Refusals.{Parts, Gives, Refuses}
+use Rattle.build.specs.Refusals.Refuses.{by_size}
+use Rattle.build.specs.TrackLines.{line_count, largest_step, routing_layers}
+use Rattle.build.proofs.DesignLemmas.{tracks_of, entries_are, design_is}
+use Rattle.build.proofs.FirstFaults.{few_levels, counted}
+use Rattle.cells.proofs.Lists.{AllZip-weaker}
+use Rattle.build.proofs.TechLemmas.{tech_is}
+use Rattle.build.proofs.WireLemmas.{fixed_are}
+use Rattle.build.proofs.TrackLemmas.{tracks_are}
+use Rattle.build.proofs.Uniqueness.{no_refusal, one_refusal, is_memory}
+
+-- what the steps before have shown
+pub record Stands (i : Input) (options : Options) (known : Lookup) (index : NetGuides) (tech : Tech) : Type 0 where
+  pub is_input : IsInput i
+  pub via : options.via ≤ 2 ^ 20
+  pub least : pos 1 ≤ℤ options.tile
+  pub most : options.tile ≤ℤ pos (2 ^ 35)
+  pub known_is : IsLookup i.lef i.def known
+  pub index_is : IsGuideIndex i index
+  pub tech_of : IsTechOf i.lef tech
+  pub layers : All (IsOnLayer (length i.lef.layers)) (fixed_of i)
+  pub names : name_fault i ≡ None
+  pub counts : count_fault i tech ≡ None
+
+-- the tracks that are built
+pub record AreBuilt (def : Def) (tech : Tech) (tracks : Tracks) : Type 0 where
+  pub levels : AllZip (IsLevel def.tracks) (routing_layers tech.layers) tracks.lines
+  pub steps : tracks.largest_step ≡ map (largest_step def.tracks) (routing_layers tech.layers)
+
+pub ground_is : (i : Input) (options : Options) (known : Lookup) (index : NetGuides) (tech : Tech) (tracks : Tracks) → Stands i options known index tech → AreBuilt i.def tech tracks → AreGrounds i known index tech tracks
+ground_is i options known index tech tracks s b =
+    let few = few_levels i s.names in
+    let count = counted i tech s.counts in
+    let same = s.tech_of.layers in
+    record {
+      is_input = s.is_input;
+      is_lookup = s.known_is;
+      is_index = s.index_is;
+      is_tech = tech_is i.lef tech s.is_input.is_lef s.tech_of few;
+      same_layers = same;
+      are_tracks = tracks_are tech i.def.tracks tracks s.is_input.is_def.tracks b.levels b.steps (subst (λ (ls : List Layer). All (λ (l : Layer). line_count l i.def.tracks ≤ 65536) (routing_layers ls)) (sym same) count.lines);
+      few_shapes = count.shapes;
+      few_levels = subst (λ (ls : List Layer). length (routing_layers ls) ≤ 16) (sym same) few;
+    }
+
+pub nets_of : (i : Input) (g : TrackSystem) (said : List DefNet) (nets : List Net) → AllZip (IsBuiltNet i g) said nets → AllZip (IsNetOf i g) said nets
+nets_of i g said nets h = AllZip-weaker (IsBuiltNet i g) (IsNetOf i g) (λ s n b. b.is_net_of) said nets h
+
+-- the parts of the design
+abbrev pub parts_are : (i : Input) (options : Options) (known : Lookup) (index : NetGuides) (tech : Tech) (tracks : Tracks) (nets : List Net) → Stands i options known index tech → AreBuilt i.def tech tracks → AllZip (IsBuiltNet i (system_of tech tracks i.def.die)) i.def.nets nets → Parts i
+parts_are i options known index tech tracks nets s b n = record {
+  tech = tech;
+  tech_of = s.tech_of;
+  tracks = tracks;
+  tracks_of = tracks_of i.lef i.def tech tracks s.tech_of.layers b.levels b.steps;
+  nets = nets;
+  nets_of = nets_of i (system_of tech tracks i.def.die) i.def.nets nets n;
+}
+
+-- the design that is put together
+pub record IsAssembled (i : Input) (options : Options) (known : Lookup) (index : NetGuides) (d : Design) : Type 0 where
+  pub stands : Stands i options known index d.tech
+  pub built : AreBuilt i.def d.tech d.tracks
+  pub nets : AllZip (IsBuiltNet i (system_of d.tech d.tracks i.def.die)) i.def.nets d.nets
+  pub grid : d.grid ≡ grid_of i.def options
+  pub fixed : d.fixed ≡ fixed_of i
+  pub chosen : d.options ≡ options
+  pub skipped : d.skipped ≡ skipped_of i.lef i.def
+  pub sizes : size_fault (grid_of i.def options) (fixed_of i) d.nets ≡ None
+
+pub assembled_gives : (i : Input) (options : Options) (known : Lookup) (index : NetGuides) (d : Design) → IsAssembled i options known index d → Gives i options d
+assembled_gives i options known index d a =
+    let p = parts_are i options known index d.tech d.tracks d.nets a.stands a.built a.nets in
+    record {
+      design = record { tech = p.tech_of; tracks = p.tracks_of; grid = a.grid; nets = p.nets_of; fixed = a.fixed; options = a.chosen; skipped = a.skipped };
+      passes = record { names = a.stands.names; counts = a.stands.counts; sizes = a.sizes };
+    }
+
+pub assembled_fits : (i : Input) (options : Options) (known : Lookup) (index : NetGuides) (d : Design) → IsAssembled i options known index d → IsDesign d
+assembled_fits i options known index d a =
+    let g = ground_is i options known index d.tech d.tracks a.stands a.built in
+    design_is i options d a.stands.is_input.is_lef a.stands.is_input.is_def a.stands.tech_of g.is_tech g.are_tracks a.grid a.stands.via a.stands.least a.stands.most a.chosen
+    (subst (λ (die : Sides). AllZip (IsBuiltNet i (system_of d.tech d.tracks die)) i.def.nets d.nets) (ap (λ g. g.die) (sym a.grid)) a.nets) a.fixed
+    (fixed_are i d.tech a.stands.tech_of.layers a.stands.layers (counted i d.tech a.stands.counts).near)
+
+pub assembled_entries : (i : Input) (options : Options) (known : Lookup) (index : NetGuides) (d : Design) → IsAssembled i options known index d → HasEntries d
+assembled_entries i options known index d a =
+    entries_are i i.def.nets d
+    (subst (λ (die : Sides). AllZip (IsNetOf i (system_of d.tech d.tracks die)) i.def.nets d.nets) (ap (λ g. g.die) (sym a.grid))
+    (AllZip-weaker (IsBuiltNet i (system_of d.tech d.tracks i.def.die)) (IsNetOf i (system_of d.tech d.tracks i.def.die)) (λ s n h. h.is_net_of) i.def.nets d.nets a.nets))
+
+-- exits
+pub refused : (i : Input) (options : Options) (r : Result Design BuildError) (x : BuildError) → IsErrAnd r (λ e. e ≡ x) → (x ≢ OutOfMemory → Refuses i options x) → IfErr r (λ e. e ≢ OutOfMemory → Refuses i options e)
+refused i options r x is h =
+    let p = err_from_is_err_and r is in
+    rw (p.1, p.2) h
+
+pub out_of_memory : (i : Input) (options : Options) (r : Result Design BuildError) → IsErrAnd r (λ e. e ≡ OutOfMemory) → IfErr r (λ e. e ≢ OutOfMemory → Refuses i options e)
+out_of_memory i options r is =
+    let p = err_from_is_err_and r is in
+    rw (p.1, p.2) (λ other. absurd (other refl))
+
+-- each answer in both directions
+pub only_design : (i : Input) (options : Options) (r : Result Design BuildError) → IfErr r (λ e. e ≢ OutOfMemory → Refuses i options e) → (d : Design) → Gives i options d → IfErr r (λ e. e ≡ OutOfMemory)
+only_design i options (Ok x) h d g = tt
+only_design i options (Err e) h d g = is_memory e (λ other. no_refusal i options d e g (h other))
+
+pub only_refusal : (i : Input) (options : Options) (r : Result Design BuildError) → IfOk r (Gives i options) → IfErr r (λ e. e ≢ OutOfMemory → Refuses i options e) → (e : BuildError) → Refuses i options e → MatchResult r (λ d. ⊥) (λ f. f ≢ OutOfMemory → f ≡ e)
+only_refusal i options (Ok d) g h e x = no_refusal i options d e g x
+only_refusal i options (Err f) g h e x = λ other. one_refusal i options f e (h other) x
+
+-- the grid as it is made
+pub grid_is : (def : Def) (options : Options) → pos 1 ≤ℤ options.tile → options.tile ≤ℤ pos (2 ^ 35) → (let g : Grid = record { die = def.die; tile = to_z w64 (of_z w64 options.tile) } in g) ≡ grid_of def options
+grid_is def options least most =
+    let fits : FitsSigned w64 options.tile = fits_signed_from_abs w64 options.tile (within options.tile least most) in
+    ap (λ (t : ℤ). let g : Grid = record { die = def.die; tile = t } in g) (to_z-of_z w64 options.tile fits)
+  where
+    within : (z : ℤ) → pos 1 ≤ℤ z → z ≤ℤ pos (2 ^ 35) → unsigned_abs z < 2 ^ 63
+    within (pos n) a b = omega (arith, ints)
+    within (negsuc n) a b = absurd (omega (arith, ints))
+
+pub sizes_through : (i : Input) (options : Options) (g : Grid) (shapes : List Shape) (ns nets : List Net) → g ≡ grid_of i.def options → shapes ≡ fixed_of i → ns ≡ nets → size_fault g shapes ns ≡ size_fault (grid_of i.def options) (fixed_of i) nets
+sizes_through i options g shapes ns nets a b c =
+    ap (λ (x : Grid). size_fault x shapes ns) a ∙ ap (λ (x : List Shape). size_fault (grid_of i.def options) x ns) b ∙ ap (size_fault (grid_of i.def options) (fixed_of i)) c
+
+pub built_through : (def : Def) (tech : Tech) (tracks : Tracks) (rows : List TrackRow) (layers : List Layer) → rows ≡ def.tracks → layers ≡ tech.layers → AllZip (IsLevel rows) (routing_layers layers) tracks.lines → tracks.largest_step ≡ map (largest_step rows) (routing_layers layers) → AreBuilt def tech tracks
+built_through def tech tracks rows layers r l lines steps = record {
+  levels = subst (λ (rs : List TrackRow). AllZip (IsLevel rs) (routing_layers tech.layers) tracks.lines) r (subst (λ (ls : List Layer). AllZip (IsLevel rows) (routing_layers ls) tracks.lines) l lines);
+  steps = steps ∙ ap (λ (ls : List Layer). map (largest_step rows) (routing_layers ls)) l ∙ ap (λ (rs : List TrackRow). map (largest_step rs) (routing_layers tech.layers)) r;
+}
+
+pub nets_through : (i : Input) (g : TrackSystem) (said : List DefNet) (nets : List Net) → said ≡ i.def.nets → AllZip (IsBuiltNet i g) said nets → AllZip (IsBuiltNet i g) i.def.nets nets
+nets_through i g said nets s h = subst (λ (ss : List DefNet). AllZip (IsBuiltNet i g) ss nets) s h
+
+-- the refusal of a size
+pub too_large : (i : Input) (options : Options) (known : Lookup) (index : NetGuides) (tech : Tech) (tracks : Tracks) (nets : List Net) (e : BuildError) → Stands i options known index tech → AreBuilt i.def tech tracks → AllZip (IsBuiltNet i (system_of tech tracks i.def.die)) i.def.nets nets → size_fault (grid_of i.def options) (fixed_of i) nets ≡ Some e → Refuses i options e
+too_large i options known index tech tracks nets e s b n h = by_size s.names (parts_are i options known index tech tracks nets s b n) s.counts h
