@@ -3,3 +3,4 @@ mod Greatest
 mod Lists
 mod CoverLemmas
 mod SpanLemmas
+pub mod TileLemmas

@@ -1,3 +1,4 @@
 pub mod Covered
 pub mod Halo
 pub mod Spans
+pub mod Tiles

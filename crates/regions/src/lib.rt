@@ -6,6 +6,8 @@ mod cover;
 mod guide;
 mod margin;
 mod spans;
+mod tiles;
 
 pub use cover::covered;
 pub use margin::halo;
+pub use tiles::tiles_of;
