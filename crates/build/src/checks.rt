@@ -228,7 +228,14 @@ fn net_metal(
     ensures metal { Finds (λ m. m ≡ metal_said (input_by given.now) false net.now) result (net_fault (input_by given.now) (number, net.now)) }
     ensures layers { IfOk result (AreOn (input_by given.now)) }
 {
-    check_connections(alloc, given.lef, given.def, known, number, net.pins.as_slice())?;
+    check_connections(
+        alloc,
+        given.lef,
+        given.def,
+        known,
+        number,
+        net.pins.as_slice(),
+    )?;
     metal_of_net(alloc, given, on, false, net)
 }
 

@@ -55,12 +55,7 @@ fn add_pins(
 }
 
 /// The shapes of the components, then those of the pins of the design, and then the blockages.
-fn placed_shapes(
-    alloc: Global,
-    lef: &Lef,
-    def: &Def,
-    known: &Lookup,
-) -> Result<Vec<Shape>, Memory>
+fn placed_shapes(alloc: Global, lef: &Lef, def: &Def, known: &Lookup) -> Result<Vec<Shape>, Memory>
     requires lef { IsLef lef.now }
     requires def { IsDef def.now }
     requires known { IsLookup lef.now def.now known.now }
@@ -115,10 +110,7 @@ fn add_special(
 }
 
 /// Adds the wiring of nets, of which these are the rectangles.
-fn add_wired(
-    shapes: &mut Vec<Shape>,
-    metals: &[Seq<(LayerNo, Rect)>],
-) -> Result<(), Memory>
+fn add_wired(shapes: &mut Vec<Shape>, metals: &[Seq<(LayerNo, Rect)>]) -> Result<(), Memory>
     requires { length metals.now < 2 ^ 32 }
     ensures { OnOk result (shapes.new.items ≡ shapes.old.items ++ flat_map wire_shapes (enumerate_from 0 metals.now)) }
 {

@@ -59,14 +59,7 @@ pub fn metal_of_net(
     ensures layers { IfOk result (AreOn (input_by given.now)) }
 {
     let ranges = net.wiring.as_slice();
-    Ok(wires_metal(
-        alloc,
-        on,
-        given.text,
-        given.tokens,
-        special,
-        ranges,
-    )?)
+    Ok(wires_metal(alloc, on, given.text, given.tokens, special, ranges)?)
 }
 
 /// The rectangles of the special nets.

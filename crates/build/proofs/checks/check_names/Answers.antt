@@ -103,8 +103,7 @@ pub returns : goal.returns
 returns c =
     let i = input_by c.args.given.now in
     let lef = c.args.given.now.lef.now in
-    let names = c.args.known.now.layers in
-    (
+    let names = c.args.known.now.layers in (
       no_fault i c.args.known.now c.requires.known (c.in_ok-check_scale.ensures, (sym (ap (first_by (row_fault names)) c.as_slice.ensures) ∙ c.in_ok-check_rows.ensures, (c.in_ok-on.ensures.0, (sym (ap (λ (ms : List Macro). first_by (component_fault ms) c.as_slice-3.result.now) c.as_slice-2.ensures ∙ ap (first_by (component_fault lef.macros)) c.as_slice-3.ensures) ∙ c.in_ok-check_components.ensures, (sym (ap (first_by (pin_fault names)) c.as_slice-4.ensures) ∙ c.in_ok-check_pins.ensures, (sym (ap (rects_fault names) c.as_slice-5.ensures) ∙ c.in_ok-check_rects.ensures, (c.in_ok-special.ensures.metal.0, (c.in_ok-nets.ensures.metal.0, (sym (ap (λ (ls : List Layer). first_by (level_fault c.as_slice-7.result.now) (routing_layers ls)) c.as_slice-6.ensures ∙ ap (λ (rs : List TrackRow). first_by (level_fault rs) (routing_layers lef.layers)) c.as_slice-7.ensures) ∙ c.in_ok-check_levels.ensures, (c.in_ok-check_guides.ensures, (sym (ap (λ (n : ℕ). limit_fault RoutingLayers n 16) (c.routing_count.ensures ∙ ap (λ (ls : List Layer). length (routing_layers ls)) c.as_slice-8.ensures)) ∙ c.in_ok-check_limit.ensures, tt))))))))))),
       record {
         special = c.in_ok-special.ensures.metal.1;
