@@ -1,5 +1,5 @@
-//! The parts of track lines in a net's guide, how far from its guide the wires of a net can matter to
-//! others, and the tiles that it can touch.
+//! The parts of track lines in a net's guide, the halo, and the tiles that a guide with the halo
+//! around it meets.
 #![tactic(auto)]
 
 mod cover;
