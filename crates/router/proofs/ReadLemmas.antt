@@ -1,5 +1,5 @@
 -- From what the readers answer to the outcome of the texts.
-use Rattle.std.proofs.Common.{◌≡◌, ◌≢◌, ◌⊎◌, inl, inr, ℕ, ◌<◌, ◌≤◌, Err, IfSome, List, [], ◌∷◌, Option, Some, None, length, get_or, refl, sym, subst, ap, ◌∙◌, zero, suc, arith}
+use Rattle.std.proofs.Common.{◌≡◌, ◌≢◌, ◌⊎◌, inl, inr, ℕ, ◌<◌, ◌≤◌, Err, IfSome, List, [], ◌∷◌, Option, Some, None, length, get_or, refl, sym, subst, ap, ◌∙◌, zero, suc, arith, All}
 use Rattle.std.specs.Prelude.{ℤ, unwrap_or}
 use Rattle.std.specs.List.{AllZip}
 use Rattle.track_graph.specs.declared.design.Net.{Net}
@@ -37,11 +37,15 @@ use Rattle.build.specs.Refusals.{Gives, Refuses}
 use Rattle.build.specs.TrackLines.{default_tile_of}
 use Rattle.router.specs.Words.{CommandLine}
 use Rattle.router.specs.Refusals.{lef_most, def_most, guide_most}
-use Rattle.router.specs.Outcomes.{IsSource, IsDefFileRefusal, IsDefRefusal, IsTextRefusal, SayBoth, IsGuideRefusal, AreGuidesOf, input_from, options_of, IsBuildRefusal, IsDesigned, IsFirstRefusal, AreHeld}
+use Rattle.router.specs.Outcomes.{IsSource, IsDefFileRefusal, IsDefRefusal, IsTextRefusal, SayBoth, IsGuideRefusal, AreGuidesOf, input_from, options_of, IsBuildRefusal, IsFirstRefusal, AreHeld}
 use Rattle.router.specs.Outputs.{ShelfView}
 use Rattle.router.specs.Runs.{Cause}
-use Rattle.router.specs.Made.{IsReady}
-use Rattle.router.specs.Sources.{of_take, of_scan, IsSourceFault, SaysNoGuides, IsLefFileCause, IsDefFileCause, IsGuideFileCause, IsGuideCause}
+use Rattle.router.specs.Made.{IsRead, IsReady}
+use Rattle.rt_base.specs.declared.tech.Via.{Via}
+use Rattle.track_graph.specs.Metal.{Metal}
+use Rattle.wire_cover.specs.GoodStrokes.{IsOrdered}
+use Rattle.read_back.proofs.Lists.{all_at}
+use Rattle.router.specs.Sources.{AreReadable, of_take, of_scan, IsSourceFault, SaysNoGuides, IsLefFileCause, IsDefFileCause, IsGuideFileCause, IsGuideCause}
 use Rattle.router.proofs.RunLemmas.{risen_from, risen_to}
 use Rattle.rt_base.specs.declared.scan.ScanError.{ScanError}
 use Rattle.rt_base.specs.declared.scan.ScanError.TheVariants.{UnclosedQuote, NotText, Memory as ScanMemory}
@@ -177,18 +181,22 @@ pub guides_read : (told mid : Option Files) (guide : Option (List ℕ)) (guides 
 guides_read told mid guide guides asked is same h = subst (λ g. AreGuidesOf told g guides) is (subst (λ t. AreGuidesOf t guide guides) same h)
 
 -- the files give the design
-pub designed_of : (told : Option Files) (asked : CommandLine) (lef def : Source) (said : Texts) (guides : Option Guides) (d : Design) → AreCut told asked lef def → SayBoth lef def said → AreGuidesOf told asked.guide guides → Gives (input_from def said guides) (options_of asked said) d → IsDesigned told asked def.text d
-designed_of told asked lef def said guides d cut say are gives = record {
-  lef = lef;
-  lef_cut = cut.lef_cut;
-  def = def;
-  def_cut = cut.def_cut;
-  said = said;
-  say = say;
-  guides = guides;
-  are_guides = are;
-  gives = gives;
-  text_is = refl;
+pub read_of : (told : Option Files) (asked : CommandLine) (lef def : Source) (said : Texts) (guides : Option Guides) (d : Design) → AreCut told asked lef def → SayBoth lef def said → AreGuidesOf told asked.guide guides → Gives (input_from def said guides) (options_of asked said) d → AreReadable def said → All (λ (v : Via). All (λ (m : Metal). IsOrdered m.1) v.rects) d.tech.vias → IsRead told asked def.text d
+read_of told asked lef def said guides d cut say are gives readable ordered = record {
+  designed = record {
+    lef = lef;
+    lef_cut = cut.lef_cut;
+    def = def;
+    def_cut = cut.def_cut;
+    said = said;
+    say = say;
+    guides = guides;
+    are_guides = are;
+    gives = gives;
+    text_is = refl;
+  };
+  readable = readable;
+  ordered = λ k v is usable. all_at (λ (x : Via). All (λ (m : Metal). IsOrdered m.1) x.rects) d.tech.vias ordered k v is;
 }
 
 -- the design decides

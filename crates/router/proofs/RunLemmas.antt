@@ -24,10 +24,12 @@ use Rattle.router.specs.declared.refusal.Refusal.TheVariants.{Words, LefBytes, D
 use Rattle.router.specs.Words.{CommandLine}
 use Rattle.router.specs.Refusals.{status_of, build_status}
 use Rattle.router.specs.ErrorLines.{error_line}
-use Rattle.router.specs.Outcomes.{IsDesigned, IsGuideFileRefusal, IsGuideRefusal, IsFirstRefusal}
+use Rattle.router.specs.Outcomes.{input_from, options_of, IsGuideFileRefusal, IsGuideRefusal, IsFirstRefusal}
 use Rattle.router.specs.Outputs.{ShelfView, SinkView, with_outputs, IsPartlyPut, IsPutFault, Says}
-use Rattle.router.specs.Runs.{Moment, Cause, has_unrouted, routed_text, routed_status, IsRouting, IsRouted, IsRefused, IsUnwritten, IsPutFailed, IsSayFailed, IsOutOfMemory, SaysMemory, RefusesWords, Runs}
-use Rattle.router.specs.Made.{AreOutputs}
+use Rattle.router.specs.Runs.{Moment, Cause, has_unrouted, routed_text, routed_status, IsRouting, ReadsBack, IsRouted, IsRefused, IsUnwritten, IsPutFailed, IsSayFailed, IsOutOfMemory, SaysMemory, RefusesWords, Runs}
+use Rattle.router.specs.Made.{IsRead, IsReady, AreOutputs}
+use Rattle.def_out.specs.Conditions.{AreCloses}
+use Rattle.read_back.proofs.Again.{read_back}
 use Rattle.router.specs.Steps.{SaysRefusal, IsUnputFile, IsUnput, EndsSaid, EndsRefused, Ends}
 
 -- ---- counts of faults
@@ -141,17 +143,26 @@ status_low d s = at (has_unrouted d s)
     at true = lit≤ tt
     at false = lit≤ tt
 
+-- the routed DEF is read again
+written_again : (asked : CommandLine) (told : Option Files) (text : List ℕ) (d : Design) (blocks : List Block) → (read : IsRead told asked text d) → IsReady text d → IsRouting d blocks → ReadsBack read.designed blocks
+written_again asked told text d blocks read fits routing =
+    let designed = read.designed in
+    read_back designed.say.units designed.lef.text designed.lef.tokens (input_from designed.def designed.said designed.guides) (options_of asked designed.said) d blocks
+    designed.lef_cut.cut designed.say.in_units.lef_says designed.def_cut.cut designed.say.def_says
+    (record { is_lef = read.readable.lef_fits; is_def = read.readable.def_fits; gives = designed.gives; design = fits.design; ordered = read.ordered; closes = subst (λ x. AreCloses x d.nets) designed.text_is fits.closes; history = routing.finished.history })
+
 -- the texts that were put are those of the journal
-pub runs_ended : (asked : CommandLine) (before after : Moment) (text : List ℕ) (d : Design) (o : Outputs) (done : Done) → IsDesigned before.shelf.files asked text d → AreOutputs text d o → Ends asked o before after done → Runs asked before after done
-runs_ended asked before after text d o done designed made ends = elim ends [
+pub runs_ended : (asked : CommandLine) (before after : Moment) (text : List ℕ) (d : Design) (o : Outputs) (done : Done) → IsRead before.shelf.files asked text d → IsReady text d → AreOutputs text d o → Ends asked o before after done → Runs asked before after done
+runs_ended asked before after text d o done read fits made ends = elim ends [
   | inl w ↦
       let routing : IsRouting d done.journal.blocks = subst (λ (bs : List Block). IsRouting d bs) (sym w.journal) made.routing in
       let status : done.status ≡ routed_status d (state_of d done.journal.blocks) = w.status ∙ made.status ∙ ap (λ (bs : List Block). routed_status d (state_of d bs)) (sym w.journal) in
       routed_runs asked before after done (subst (λ n. n ≤ 1) (sym status) (status_low d (state_of d done.journal.blocks))) (record {
         text = text;
         design = d;
-        designed = designed;
+        designed = read.designed;
         routing = routing;
+        read_back = written_again asked before.shelf.files text d done.journal.blocks read fits routing;
         files = w.files ∙ ap (λ (r : List ℕ). with_outputs before.shelf.files asked r o.lines) (made.routed ∙ ap (routed_text text d) (sym w.journal)) ∙ ap (λ (l : List ℕ). with_outputs before.shelf.files asked (routed_text text d done.journal.blocks) l) (made.lines ∙ ap (journal_lines d) (sym w.journal));
         said = w.said ∙ ap (λ (r : List ℕ). with_more before.sink.text r) (made.report ∙ ap (report_text d) (sym w.journal));
         status = status;
@@ -165,7 +176,7 @@ runs_ended asked before after text d o done designed made ends = elim ends [
         unwritten_runs asked before after done w.status (record {
           text = text;
           design = d;
-          designed = designed;
+          designed = read.designed;
           routing = subst (λ (bs : List Block). IsRouting d bs) (sym w.journal) made.routing;
           fault = subst (λ r. Fault r (journal_lines d done.journal.blocks) (report_text d done.journal.blocks)) routed (subst (λ l. Fault o.routed l (report_text d done.journal.blocks)) lines (subst (λ t. Fault o.routed o.lines t) report w.fault));
         })
@@ -177,7 +188,7 @@ runs_ended asked before after text d o done designed made ends = elim ends [
             text = text;
             design = d;
             blocks = o.journal.blocks;
-            designed = designed;
+            designed = read.designed;
             routing = made.routing;
             files = subst (λ r. Left r (journal_lines d o.journal.blocks)) made.routed (subst (λ l. Left o.routed l) made.lines w.files);
           });

@@ -21,7 +21,8 @@ use Rattle.router.specs.declared.words.WordsFault.{WordsFault}
 use Rattle.router.specs.Words.{CommandLine}
 use Rattle.router.specs.Refusals.{status_of}
 use Rattle.router.specs.ErrorLines.{error_line}
-use Rattle.router.specs.Outcomes.{IsDesigned, IsFirstRefusal}
+use Rattle.read_back.specs.ReadBack.{IsReadBack}
+use Rattle.router.specs.Outcomes.{IsDesigned, IsFirstRefusal, input_from}
 use Rattle.router.specs.Outputs.{ShelfView, SinkView, shelf_at, sink_at, with_outputs, IsPartlyPut, IsPutFault, Says}
 
 -- what a shelf and a sink tell at one moment
@@ -51,12 +52,17 @@ pub record IsRouting (d : Design) (blocks : List Block) : Type 0 where
   pub finished : IsFinishedHistory d blocks
   pub headline : IsHeadline d blocks
 
+-- the routed DEF of a design that the files gave, read again, says what DEF said, and its wiring states the final wires
+abbrev pub ReadsBack : {told : Option Files} {asked : CommandLine} {text : List ℕ} {d : Design} → IsDesigned told asked text d → List Block → Type 0
+ReadsBack {told} {asked} {text} {d} designed blocks = IsReadBack (input_from designed.def designed.said designed.guides) d (state_of d blocks)
+
 -- the files told a design, and the journal is its routing: OUT holds the routed DEF, JOURNAL the journal, every other name what it held, and the report was said
 pub record IsRouted (asked : CommandLine) (before after : Moment) (done : Done) : Type 0 where
   pub text : List ℕ
   pub design : Design
   pub designed : IsDesigned before.shelf.files asked text design
   pub routing : IsRouting design done.journal.blocks
+  pub read_back : ReadsBack designed done.journal.blocks
   pub files : after.shelf.files ≡ with_outputs before.shelf.files asked (routed_text text design done.journal.blocks) (journal_lines design done.journal.blocks)
   pub said : after.sink.text ≡ with_more before.sink.text (report_text design done.journal.blocks)
   pub status : done.status ≡ routed_status design (state_of design done.journal.blocks)

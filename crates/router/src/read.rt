@@ -1,7 +1,9 @@
 //! From the files of LEF, DEF and guides to the design.
-ghost use Rattle.std.specs.Prelude.{◌≡◌, ◌≢◌, ◌⊎◌, ℕ, ◌≤◌, ◌≤ℤ◌, ◌^◌, pos, IfOk, IfErr, IfSome};
+ghost use Rattle.std.specs.Prelude.{◌≡◌, ◌≢◌, ◌⊎◌, ℕ, ◌≤◌, ◌≤ℤ◌, ◌^◌, pos, IfOk, IfErr, IfSome, All};
 ghost use Rattle.std.specs.Option.{option_copied};
 ghost use Rattle.rt_forms.specs.Clauses.{IsText};
+ghost use Rattle.track_graph.specs.Metal.{Metal};
+ghost use Rattle.wire_cover.specs.GoodStrokes.{IsOrdered};
 ghost use Rattle.lef_text.specs.IsLef.{IsLef};
 ghost use Rattle.def_text.specs.Defs.{IsDef};
 ghost use Rattle.guide_text.specs.Guides.{guides as guides_form};
@@ -9,11 +11,11 @@ ghost use Rattle.guide_text.specs.IsGuides.{AreGuides};
 ghost use Rattle.build.specs.Refusals.{Gives};
 ghost use Rattle.router.specs.declared.refusal.Refusal.TheVariants.{Memory as OutOfMemory, Read as Unread};
 ghost use Rattle.router.specs.Refusals.{lef_most, def_most, guide_most};
-ghost use Rattle.router.specs.Outcomes.{IsDesigned, AreHeld, IsSource, IsTextRefusal, SaysLef, SayBoth, IsGuideFile, AreGuidesOf, IsBuildRefusal, input_from, options_of};
+ghost use Rattle.router.specs.Outcomes.{AreHeld, IsSource, IsTextRefusal, SaysLef, SayBoth, IsGuideFile, AreGuidesOf, IsBuildRefusal, input_from, options_of};
 ghost use Rattle.shelf.specs.Shelf.{IsHeld};
 ghost use Rattle.router.specs.Outputs.{shelf_at};
 ghost use Rattle.router.specs.Runs.{Cause};
-ghost use Rattle.router.specs.Made.{IsReady};
+ghost use Rattle.router.specs.Made.{IsRead, IsReady};
 ghost use Rattle.router.specs.Words.{asked_by, guide_of, IsInRange};
 ghost use Rattle.router.specs.Sources.{IsSized, AreReadable, SaysNoGuides, IsLefFileCause, IsDefFileCause, IsGuideFileCause, IsGuideCause};
 
@@ -24,7 +26,7 @@ use build::{build, default_tile};
 use def_text::{Def, DefError, read_def_tokens, read_units_tokens};
 use guide_text::{GuideError, Guides, read_guides_tokens};
 use lef_text::{Lef, LefError, read_lef_tokens};
-use rt_base::{Memory, Name, Seq};
+use rt_base::{LayerNo, Memory, Name, Rect, Seq, Via};
 use shelf::Shelf;
 use std::alloc::Global;
 use track_graph::{Design, Options};
@@ -229,6 +231,24 @@ fn read_guides<F: Shelf>(
     Ok(Some(guides))
 }
 
+/// Does nothing: the sides of every rectangle are in order, and a proof may cite it.
+fn rects_in_order(rects: &[(LayerNo, Rect)])
+    ensures { All (λ (m : Metal). IsOrdered m.1) rects.now }
+{
+    for rect in rects {
+        let _ = rect.1.high();
+    }
+}
+
+/// Does nothing: the same of the rectangles of vias.
+fn vias_in_order(vias: &[Via])
+    ensures { All (λ (v : Via). All (λ (m : Metal). IsOrdered m.1) v.rects) vias.now }
+{
+    for via in vias {
+        rects_in_order(via.rects.as_slice());
+    }
+}
+
 /// Takes LEF and DEF and reads them, then the guides, and builds the design.
 pub(crate) fn read_design<F: Shelf>(
     alloc: Global,
@@ -236,7 +256,7 @@ pub(crate) fn read_design<F: Shelf>(
     command: &Command<'_>,
 ) -> Result<Read, Refusal>
     requires { IsInRange (asked_by command.now) }
-    ensures design { IfOk result (λ read. IsDesigned (F.told files.old) (asked_by command.now) read.text read.design) }
+    ensures design { IfOk result (λ read. IsRead (F.told files.old) (asked_by command.now) read.text read.design) }
     ensures ready { IfOk result (λ read. IsReady read.text read.design) }
     ensures refusal { IfErr result (λ e. e ≢ OutOfMemory → Cause (shelf_at F.told F.faults files.old) (shelf_at F.told F.faults files.new) (asked_by command.now) e) }
     ensures same { F.told files.new ≡ F.told files.old }
@@ -249,6 +269,7 @@ pub(crate) fn read_design<F: Shelf>(
     let said = texts_of(alloc, &lef, &def)?;
     let guides = read_guides(alloc, files, command.guide.as_str())?;
     let design = design_of(alloc, command, &def, &said, guides.as_ref())?;
+    vias_in_order(design.tech.vias.as_slice());
     let Source { text, tokens: _ } = def;
     Ok(Read { text, design })
 }

@@ -2,7 +2,7 @@ use Rattle.std.proofs.Common.{◌∙◌, ap}
 use Rattle.std.proofs.lemmas.Result.{err_from_is_err_and}
 use Rattle.router.specs.Words.{asked_by, guide_of}
 use Rattle.router.specs.Outputs.{shelf_at}
-use Rattle.router.proofs.ReadLemmas.{lef_cause, def_cause, text_cause, guide_cause, build_cause, sources_of, grown, designed_of, guides_read, lef_count, both_counts, guide_count}
+use Rattle.router.proofs.ReadLemmas.{lef_cause, def_cause, text_cause, guide_cause, build_cause, sources_of, grown, read_of, guides_read, lef_count, both_counts, guide_count}
 use Rattle.router.proofs.read.read_design.Goals as goal
 
 pub returns-in_err-lef-clause-refusal : goal.returns-in_err-lef-clause-refusal
@@ -31,7 +31,7 @@ returns-in_err-design-clause-refusal g c =
     rw (p.1, p.2) (build_cause (shelf_at g.F.Shelf.told g.F.Shelf.faults c.args.files.now) (shelf_at g.F.Shelf.told g.F.Shelf.faults c.read_guides.new.files) (asked_by c.args.command.now) _ _ _ _ _ (sources_of (g.F.Shelf.told c.args.files.now) (g.F.Shelf.told c.take_lef.new.files) (asked_by c.args.command.now) _ _ _ _ c.as_str.ensures.value c.as_str-2.ensures.value c.in_ok-lef.ensures.source c.in_ok-lef.ensures.same c.in_ok-def.ensures.source) c.in_ok-said.ensures.say (guides_read (g.F.Shelf.told c.args.files.now) (g.F.Shelf.told c.take_def.new.files) _ _ (asked_by c.args.command.now) (ap guide_of c.as_str-3.ensures.value) (c.in_ok-def.ensures.same ∙ c.in_ok-lef.ensures.same) c.in_ok-guides.ensures.guides) (rw c.as_ref.ensures.value at c.in_err-design.ensures.refusal))
 
 pub returns-clause-design : goal.returns-clause-design
-returns-clause-design g c = designed_of (g.F.Shelf.told c.args.files.now) (asked_by c.args.command.now) _ _ _ _ _ (sources_of (g.F.Shelf.told c.args.files.now) (g.F.Shelf.told c.take_lef.new.files) (asked_by c.args.command.now) _ _ _ _ c.as_str.ensures.value c.as_str-2.ensures.value c.in_ok-lef.ensures.source c.in_ok-lef.ensures.same c.in_ok-def.ensures.source) c.in_ok-said.ensures.say (guides_read (g.F.Shelf.told c.args.files.now) (g.F.Shelf.told c.take_def.new.files) _ _ (asked_by c.args.command.now) (ap guide_of c.as_str-3.ensures.value) (c.in_ok-def.ensures.same ∙ c.in_ok-lef.ensures.same) c.in_ok-guides.ensures.guides) (rw c.as_ref.ensures.value at c.in_ok-design.ensures.design)
+returns-clause-design g c = read_of (g.F.Shelf.told c.args.files.now) (asked_by c.args.command.now) _ _ _ _ _ (sources_of (g.F.Shelf.told c.args.files.now) (g.F.Shelf.told c.take_lef.new.files) (asked_by c.args.command.now) _ _ _ _ c.as_str.ensures.value c.as_str-2.ensures.value c.in_ok-lef.ensures.source c.in_ok-lef.ensures.same c.in_ok-def.ensures.source) c.in_ok-said.ensures.say (guides_read (g.F.Shelf.told c.args.files.now) (g.F.Shelf.told c.take_def.new.files) _ _ (asked_by c.args.command.now) (ap guide_of c.as_str-3.ensures.value) (c.in_ok-def.ensures.same ∙ c.in_ok-lef.ensures.same) c.in_ok-guides.ensures.guides) (rw c.as_ref.ensures.value at c.in_ok-design.ensures.design) c.in_ok-said.ensures.fit (rw c.as_slice.ensures at c.vias_in_order.ensures)
 
 pub returns-in_err-lef-clause-sure_count : goal.returns-in_err-lef-clause-sure_count
 returns-in_err-lef-clause-sure_count g c = λ sure held. lef_count (g.F.Shelf.told c.args.files.now) (asked_by c.args.command.now) _ _ _ c.as_str.ensures.value held (c.in_err-lef.ensures.sure_count sure)

@@ -1,0 +1,14 @@
+pub mod Cutting
+pub mod Finishing
+pub mod Frames
+pub mod Items
+pub mod Lists
+pub mod Loop
+pub mod NetsSection
+pub mod Opening
+pub mod Options
+pub mod Reading
+pub mod Routed
+pub mod Section
+pub mod Statements
+pub mod Turns

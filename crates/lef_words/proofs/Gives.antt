@@ -1,0 +1,58 @@
+-- What holds of each value that a form takes of words whose names are plain.
+use Rattle.std.proofs.Common.{◌≡◌, subst, ℕ, Bool, true, false, zero, suc, List, [], ◌∷◌, ◌++◌, Result, Ok, Err}
+use Rattle.std.specs.List.{AllByRecursion}
+use Rattle.rt_forms.specs.Lexeme.{Lexeme, Place}
+use Rattle.rt_forms.specs.Form.{Form, one, check, done, look, nothing, ◌>>=◌, choose, loop, unless, no_word, text, Turn, Turns, More, Done}
+use Rattle.lef_text.proofs.Yields.{OfTurn}
+use Rattle.rt_forms.proofs.Laws.{ok_is}
+use Rattle.lef_words.proofs.Words.{IsNamed}
+
+pub record Gives {E A : Type 0} (F : Form E A) (P : A → Type 0) : Type 0 where
+  pub all : (words : List Place) (rest : List Lexeme) (a : A) → AllByRecursion IsNamed words → F.takes words rest a → P a
+
+named-parts : (xs ys : List Place) → AllByRecursion IsNamed (xs ++ ys) → AllByRecursion IsNamed xs × AllByRecursion IsNamed ys
+named-parts [] ys h = (tt, h)
+named-parts (x ∷ xs) ys h = let more = named-parts xs ys h.1 in ((h.0, more.0), more.1)
+
+pub gives_bind : {E A B : Type 0} (F : Form E A) (G : A → Form E B) (P : A → Type 0) (Q : B → Type 0) → Gives F P → ((a : A) → P a → Gives (G a) Q) → Gives (F >>= G) Q
+gives_bind F G P Q y g = record {
+  all = λ words rest b named h.
+      let both = named-parts h.1 h.2 (subst (λ (ws : List Place). AllByRecursion IsNamed ws) h.3 named) in
+      (g h.0 (y.all h.1 _ h.0 both.0 h.4)).all h.2 rest b both.1 h.5;
+}
+
+-- a first form of which nothing is used
+pub gives_then : {E A B : Type 0} (F : Form E A) (G : A → Form E B) (Q : B → Type 0) → ((a : A) → Gives (G a) Q) → Gives (F >>= G) Q
+gives_then F G Q g = gives_bind F G (λ a. Unit {0}) Q (record { all = λ words rest a named h. tt }) (λ a h. g a)
+
+pub gives_check : {E A : Type 0} (r : Result A E) (P : A → Type 0) → ((a : A) → r ≡ Ok a → P a) → Gives (check r) P
+gives_check r P p = record { all = λ words rest a named h. p a h.1 }
+
+pub gives_done : {E A : Type 0} (a : A) (P : A → Type 0) → P a → Gives (done {E = E} a) P
+gives_done {E} a P p = record { all = λ words rest b named h. subst P (ok_is {E = E} a b h.1) p }
+
+pub gives_refused : {E A : Type 0} (e : E) (P : A → Type 0) → Gives (check (let r : Result A E = Err e in r)) P
+gives_refused e P = record { all = λ words rest b named h. absurd cc }
+
+pub gives_one : {E A : Type 0} (test : Place → Result A E) (P : A → Type 0) → ((p : Place) (a : A) → IsNamed p → test p ≡ Ok a → P a) → Gives (one test) P
+gives_one test P p = record { all = λ words rest a named h. p h.0 a (subst (λ (ws : List Place). AllByRecursion IsNamed ws) h.1 named).0 h.2 }
+
+pub gives_choose : {E A : Type 0} (b : Bool) (F G : Form E A) (P : A → Type 0) → Gives F P → Gives G P → Gives (choose b F G) P
+gives_choose true F G P f g = record { all = f.all }
+gives_choose false F G P f g = record { all = g.all }
+
+-- ---- loops
+
+turns_give : {E S : Type 0} (body : S → Form E (Turn S)) (P : S → Type 0) → ((s : S) → P s → Gives (body s) (OfTurn P P)) → (n : ℕ) (s t : S) (words : List Place) (rest : List Lexeme) → P s → AllByRecursion IsNamed words → Turns body n s words rest t → P t
+turns_give body P y zero s t words rest p named h = (y s p).all words rest (Done t) named h
+turns_give body P y (suc n) s t words rest p named h =
+    let both = named-parts h.1 h.2 (subst (λ (ws : List Place). AllByRecursion IsNamed ws) h.3 named) in
+    turns_give body P y n h.0 t h.2 rest ((y s p).all h.1 _ (More h.0) both.0 h.4) both.1 h.5
+
+pub gives_loop : {E S : Type 0} (body : S → Form E (Turn S)) (s : S) (P : S → Type 0) → ((u : S) → P u → Gives (body u) (OfTurn P P)) → P s → Gives (loop body s) P
+gives_loop body s P y p = record { all = λ words rest t named h. turns_give body P y h.0 s t words rest p named h.1 }
+
+pub gives_text : {E S : Type 0} (body : S → Form E (Turn S)) (s : S) (P : S → Type 0) → ((u : S) → P u → Gives (body u) (OfTurn P P)) → P s → Gives (text body s) P
+gives_text body s P y p =
+    let turn : (u : _) → P u → Gives (unless no_word body u) (OfTurn P P) = λ u q. gives_then look _ (OfTurn P P) (λ w. gives_choose (no_word w) _ (body u) (OfTurn P P) (gives_done (Done u) (OfTurn P P) q) (y u q)) in
+    gives_bind (loop (unless no_word body) s) _ P P (gives_loop (unless no_word body) s P turn p) (λ t q. gives_then nothing _ P (λ u. gives_done t P q))

@@ -1,0 +1,5 @@
+pub mod Gives
+pub mod Layers
+pub mod Macros
+pub mod Names
+pub mod Words

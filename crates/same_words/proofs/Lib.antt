@@ -1,0 +1,10 @@
+pub mod Combining
+pub mod Skipping
+pub mod Pairs
+pub mod Parts
+pub mod Sections
+pub mod Blockages
+pub mod Nets
+pub mod Vias
+pub mod Special
+pub mod Statements

@@ -1,0 +1,3 @@
+pub mod Same
+pub mod Values
+pub mod States

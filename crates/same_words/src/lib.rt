@@ -1,0 +1,3 @@
+//! Forms of text take the same words at other places, with the same values. Statements alone,
+//! without code.
+#![tactic(auto)]

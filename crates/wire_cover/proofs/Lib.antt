@@ -1,0 +1,9 @@
+pub mod Covering
+pub mod Joining
+pub mod LevelLemmas
+pub mod WireShapes
+pub mod StrokeWiring
+pub mod Directions
+pub mod GoodWalks
+pub mod WalkCover
+pub mod NetWiring

@@ -1,0 +1,2 @@
+//! Written wiring covers the points of the wires' shapes. Statements alone, without code.
+#![tactic(auto)]

@@ -1,0 +1,11 @@
+pub mod Numbers
+pub mod Forms
+pub mod Levels
+pub mod Meanings
+pub mod Steps
+pub mod Wiring
+pub mod Ends
+pub mod Naming
+pub mod Joining
+pub mod Usable
+pub mod Readable

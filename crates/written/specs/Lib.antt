@@ -1,0 +1,4 @@
+pub mod Cover
+pub mod Cuts
+pub mod Wires
+pub mod Words
