@@ -61,9 +61,9 @@ abbrev pub StatesWires : Input → Design → State → Type 0
 StatesWires again d s = (n : ℕ) (net : DefNet) → slice_get again.def.nets n ≡ Some net → IsRoutable d n → All (IsShown again.def.vias d.tech) (net_strokes d s n) → StatesNet again d s n net
 
 pub record IsReadBack (i : Input) (d : Design) (s : State) : Type 0 where
-  -- the routed DEF has the bytes of DEF, with wiring before the closing `;` of nets
+  -- the closing `;` of the nets stand in DEF's text, each behind that of the net before
   pub closes : AreCloses i.text d.nets
-  -- its tokens are those of DEF, with the words of this wiring before them
+  -- the tokens of the routed DEF are those of DEF, with the words of wiring before each closing `;`
   pub tokens : List Token
   pub cut : IsCutInto (routed_def i.text d s) tokens
   pub cuts : List Cut
@@ -71,11 +71,11 @@ pub record IsReadBack (i : Input) (d : Design) (s : State) : Type 0 where
   pub whole : cut_words cuts last ≡ places i.text i.tokens
   pub at_closes : AllZip IsNetCut d.nets cuts
   pub words : bytes_of (places (routed_def i.text d s) tokens) ≡ with_words cuts last (added_from d s 0 d.nets)
-  -- only routable nets have any
+  -- only routable nets have wiring put in
   pub others : (n : ℕ) → (IsRoutable d n → ⊥) → net_strokes d s n ≡ []
   -- it is a DEF, and says what DEF said but for this wiring
   pub def : Def
   pub says : IsText def_form (routed_def i.text d s) tokens def
   pub same : IsAgain (places i.text i.tokens) (places (routed_def i.text d s) tokens) (added_from d s 0 d.nets) i.def def
-  -- and its wiring states the final wires
+  -- and its wiring states the final wires of each routable net
   pub wires : StatesWires (with_def i (routed_def i.text d s) tokens def) d s
