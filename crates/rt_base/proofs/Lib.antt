@@ -1,3 +1,4 @@
+pub mod Lists
 pub mod Parting
 pub mod Ranges
 pub mod Scanning

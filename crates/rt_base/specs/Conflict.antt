@@ -13,6 +13,14 @@ use Rattle.rt_base.specs.Geometry.{gap_x, gap_y}
 abbrev pub spacing_of : Tech → LayerNo → ℕ
 spacing_of tech layer = unsigned_abs (int_max (unwrap_or (option_map (λ (l : Layer). l.spacing) (slice_get tech.layers layer.0)) (pos 0)) (pos 1))
 
+-- what two shapes on one layer keep between them
+abbrev pub pair_spacing : Tech → Shape → Shape → ℕ
+pair_spacing tech a b = spacing_of tech a.layer
+
+-- the most that any two shapes on a layer keep between them
+abbrev pub largest_spacing : Tech → LayerNo → ℕ
+largest_spacing tech layer = spacing_of tech layer
+
 -- nobody is one owner, and differs from each net
 abbrev pub same_owner : Owner → Owner → Bool
 same_owner (Net m) (Net n) = m == n
@@ -24,7 +32,7 @@ same_owner Nobody Nobody = true
 abbrev pub is_near_of : ℕ → ℕ → ℕ → Bool
 is_near_of gx gy s = nat_lt (gx * gx + gy * gy) (s * s)
 
--- two shapes on one layer have different owners and are nearer than the layer's spacing
+-- two shapes on one layer have different owners and are nearer than their spacing
 abbrev pub conflict_of : Tech → Shape → Shape → Bool
 conflict_of tech a b =
-    (a.layer.0 == b.layer.0) && not (same_owner a.owner b.owner) && is_near_of (gap_x a.rect b.rect) (gap_y a.rect b.rect) (spacing_of tech a.layer)
+    (a.layer.0 == b.layer.0) && not (same_owner a.owner b.owner) && is_near_of (gap_x a.rect b.rect) (gap_y a.rect b.rect) (pair_spacing tech a b)

@@ -1,4 +1,7 @@
 //! Points, ranges and rectangles, in DEF database units.
+ghost use Rattle.std.specs.Prelude.{◌≡◌, ◌≤ℤ◌};
+ghost use Rattle.rt_base.specs.Geometry.{nearest};
+
 use std::marker::Model;
 
 /// A point.
@@ -24,6 +27,27 @@ pub struct Rect {
     pub yh: i64,
 }
 
+impl Point {
+    ghost use Rattle.std.specs.Prelude.{◌≡◌, ◌<◌, ◌^◌};
+    ghost use Rattle.rt_base.specs.Geometry.{distance};
+
+    /// The distance in x plus the distance in y. Takes no memory.
+    pub fn distance(self, q: Point) -> u64
+        requires { distance self q < 2 ^ 64 }
+        ensures { result ≡ distance self q }
+    {
+        self.x.abs_diff(q.x) + self.y.abs_diff(q.y)
+    }
+}
+
+/// The number of a range that is nearest to z.
+fn nearest(lo: i64, hi: i64, z: i64) -> i64
+    requires { lo ≤ℤ hi }
+    ensures { result ≡ nearest lo hi z }
+{
+    z.clamp(lo, hi)
+}
+
 impl Model for Rect {
     ghost use Rattle.std.specs.Prelude.{◌≤ℤ◌};
     ghost use Rattle.rt_base.specs.Sides.{Sides};
@@ -38,8 +62,8 @@ impl Model for Rect {
 }
 
 impl Rect {
-    ghost use Rattle.std.specs.Prelude.{◌≡◌, ◌≤ℤ◌, ◌^◌, IsTrue, ◌↔◌};
-    ghost use Rattle.rt_base.specs.Geometry.{Holds, low_of, high_of, hull_of, moved};
+    ghost use Rattle.std.specs.Prelude.{◌≡◌, ◌≤ℤ◌, ◌^◌, pos, IsTrue, ◌↔◌};
+    ghost use Rattle.rt_base.specs.Geometry.{Holds, low_of, high_of, hull_of, hull_of_sides, moved, grown, nearest_point};
     ghost use Rattle.rt_base.specs.Ranges.{IsPointWithin, AreSidesWithin};
 
     /// The smallest rectangle with both points, its corners in any order. Takes no memory.
@@ -65,6 +89,43 @@ impl Rect {
             yl: self.yl + by.y,
             xh: self.xh + by.x,
             yh: self.yh + by.y,
+        }
+    }
+
+    /// The rectangle made larger on each side. Takes no memory.
+    pub fn grown(self, by: i64) -> Rect
+        requires rect { AreSidesWithin (2 ^ 61) self }
+        requires low { pos 0 ≤ℤ by }
+        requires high { by ≤ℤ pos (2 ^ 61) }
+        ensures { result ≡ grown self by }
+    {
+        Rect {
+            xl: self.xl - by,
+            yl: self.yl - by,
+            xh: self.xh + by,
+            yh: self.yh + by,
+        }
+    }
+
+    /// The smallest rectangle that holds this one and another. Takes no memory.
+    pub fn join(self, other: Rect) -> Rect
+        ensures { result ≡ hull_of_sides self other }
+    {
+        Rect {
+            xl: self.xl.min(other.xl),
+            yl: self.yl.min(other.yl),
+            xh: self.xh.max(other.xh),
+            yh: self.yh.max(other.yh),
+        }
+    }
+
+    /// The point of the rectangle that is nearest to a point. Takes no memory.
+    pub fn nearest(self, p: Point) -> Point
+        ensures { result ≡ nearest_point self p }
+    {
+        Point {
+            x: nearest(self.xl, self.xh, p.x),
+            y: nearest(self.yl, self.yh, p.y),
         }
     }
 

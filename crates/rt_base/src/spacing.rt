@@ -1,6 +1,6 @@
 //! The test for conflicts.
 ghost use Rattle.std.specs.Prelude.{◌≡◌, ◌<◌, length};
-ghost use Rattle.rt_base.specs.Conflict.{conflict_of, spacing_of, is_near_of};
+ghost use Rattle.rt_base.specs.Conflict.{conflict_of, spacing_of, pair_spacing, largest_spacing, is_near_of};
 
 use crate::distance::gap;
 use crate::tech::{LayerNo, Shape, Tech};
@@ -15,6 +15,22 @@ impl Tech {
             .spacing
             .max(1)
             .unsigned_abs()
+    }
+
+    /// What two shapes on one layer keep between them, at least 1. Takes no memory.
+    pub fn pair_spacing(&self, a: &Shape, _b: &Shape) -> u64
+        requires { a.now.layer.0 < length self.now.layers }
+        ensures { result ≡ pair_spacing self.now a.now _b.now }
+    {
+        self.spacing(a.layer)
+    }
+
+    /// The most that any two shapes on a layer keep between them, at least 1. Takes no memory.
+    pub fn largest_spacing(&self, layer: LayerNo) -> u64
+        requires { layer.0 < length self.now.layers }
+        ensures { result ≡ largest_spacing self.now layer }
+    {
+        self.spacing(layer)
     }
 }
 
@@ -31,7 +47,7 @@ fn is_near(gx: u64, gy: u64, s: u64) -> bool
     y * y < s * s - x * x
 }
 
-/// Whether two shapes of different owners stand on one layer, nearer to each other than its
+/// Whether two shapes of different owners stand on one layer, nearer to each other than their
 /// spacing. Touching shapes of different owners conflict. Takes no memory.
 pub fn conflict(tech: &Tech, a: &Shape, b: &Shape) -> bool
     requires { a.now.layer.0 < length tech.now.layers }
@@ -41,5 +57,5 @@ pub fn conflict(tech: &Tech, a: &Shape, b: &Shape) -> bool
         return false;
     }
     let (gx, gy) = gap(&a.rect, &b.rect);
-    is_near(gx, gy, tech.spacing(a.layer))
+    is_near(gx, gy, tech.pair_spacing(a, b))
 }

@@ -1,6 +1,7 @@
 -- Forms that several grammars share.
 use Rattle.std.specs.Prelude.{◌≡◌, ℕ, ◌+◌, List, [], ◌∷◌, Result, Ok, Err, Option, Some, None, bytes_eq, nat_eq, slice_get, codes, not, ◌||◌, ◌&&◌, Bool, true, false, if◌then◌else◌}
 use Rattle.std.specs.Option.{option_eq}
+use Rattle.rt_base.specs.Names.{is_sign}
 use Rattle.rt_forms.specs.Lexeme.{Lexeme, At, End, Place, first_of}
 use Rattle.rt_forms.specs.Form.{Faults, Read, Form, one, admit, look, done, ◌>>=◌, Which}
 
@@ -14,7 +15,7 @@ the_word word = admit (λ p. if_so (bytes_eq p.word word) tt)
 
 -- not quoted, and none of the signs
 abbrev pub is_name_word : List ℕ → Bool
-is_name_word word = not (option_eq nat_eq (slice_get word 0) (Some 34) || bytes_eq word (codes ";") || bytes_eq word (codes "+") || bytes_eq word (codes "-") || bytes_eq word (codes "(") || bytes_eq word (codes ")") || bytes_eq word (codes "*"))
+is_name_word word = not (option_eq nat_eq (slice_get word 0) (Some 34) || is_sign word)
 
 -- a name
 abbrev pub a_name : {E : Type 0} → Form E Place
