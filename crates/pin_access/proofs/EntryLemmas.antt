@@ -72,7 +72,7 @@ gathered_more P H N A x rest before step = (
 )
 
 -- order in lists that are joined, and in images of lists
-all_pairs_joined : {X : Type 0} → (R : X → X → Type 0) (xs ys : List X) → AllPairs R xs → AllPairs R ys → ((x y : X) → Contains xs x → Contains ys y → R x y) → AllPairs R (xs ++ ys)
+pub all_pairs_joined : {X : Type 0} → (R : X → X → Type 0) (xs ys : List X) → AllPairs R xs → AllPairs R ys → ((x y : X) → Contains xs x → Contains ys y → R x y) → AllPairs R (xs ++ ys)
 all_pairs_joined R xs ys hx hy across i j d lt within = ⊎_elim
     (λ (j_in : j < length xs). let i_in : i < length xs = omega arith in rw (get_or_append_left xs ys d i i_in, get_or_append_left xs ys d j j_in) (hx i j d lt j_in))
     (λ (j_out : length xs ≤ j). ⊎_elim
@@ -81,7 +81,7 @@ all_pairs_joined R xs ys hx hy across i j d lt within = ⊎_elim
     (cases_lt i (length xs)))
     (cases_lt j (length xs))
 
-all_pairs_image : {X Y : Type 0} → (f : X → Y) (R : Y → Y → Type 0) (xs : List X) → AllPairs (λ a b. R (f a) (f b)) xs → AllPairs R (map f xs)
+pub all_pairs_image : {X Y : Type 0} → (f : X → Y) (R : Y → Y → Type 0) (xs : List X) → AllPairs (λ a b. R (f a) (f b)) xs → AllPairs R (map f xs)
 all_pairs_image f R [] h = λ i j d lt within. absurd (omega arith)
 all_pairs_image f R (x ∷ xs) h = AllPairs-cons R (f x) (map f xs) (All-map (R (f x)) f xs (λ k d within. h 0 (suc k) d (omega arith) (omega arith))) (all_pairs_image f R xs (λ i j d lt within. h (suc i) (suc j) d (omega arith) (omega arith)))
 

@@ -3,4 +3,5 @@ pub mod Members
 pub mod NearLemmas
 pub mod OrderLemmas
 pub mod LevelLemmas
+pub mod Counting
 pub mod EntryLemmas
