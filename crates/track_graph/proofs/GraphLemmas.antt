@@ -15,8 +15,7 @@ use Rattle.rt_base.specs.declared.tech.Layer.{Layer}
 use Rattle.rt_base.specs.declared.tech.Tech.{Tech}
 use Rattle.track_graph.specs.declared.design.Tracks.{Tracks}
 use Rattle.track_graph.specs.Designs.{AreTracks}
-use Rattle.track_graph.specs.Edges.{NoneBetween}
-use Rattle.track_graph.specs.Levels.{number_of, lines_of, lines_below}
+use Rattle.track_graph.specs.Levels.{number_of, lines_of, lines_below, NoneBetween}
 
 abbrev pub IsAscending : List ℤ → Type 0
 IsAscending lines = AllPairs (λ a b. a <ℤ b) lines

@@ -17,6 +17,7 @@ use Rattle.rt_base.specs.declared.walk.Entry.{Entry}
 use Rattle.rt_base.specs.declared.walk.EntryKind.TheVariants.{Pin as AtPin}
 use Rattle.rt_base.specs.declared.walk.Vertex.{Vertex}
 use Rattle.rt_base.specs.declared.walk.Walk.{Walk}
+use Rattle.track_graph.specs.Readings.{hard_reading, soft_reading}
 use Rattle.track_graph.specs.declared.design.Design.{Design}
 use Rattle.track_graph.specs.declared.design.Net.{Net}
 use Rattle.track_graph.specs.declared.design.NetKind.TheVariants.{Routable}
@@ -28,12 +29,12 @@ use Rattle.track_graph.specs.declared.history.Block.TheVariants.{Wire, RipFor}
 use Rattle.track_graph.specs.declared.history.State.{State}
 use Rattle.track_graph.specs.Histories.{crossed_from}
 use Rattle.track_graph.specs.States.{first_state, net_state, state_of}
-use Rattle.track_graph.specs.Searches.{hard_reading, soft_reading, some_conflict, walk_cost}
+use Rattle.track_graph.specs.Searches.{some_conflict, walk_cost}
 use Rattle.track_graph.specs.Strokes.{walk_strokes}
 use Rattle.track_graph.specs.Walks.{walk_shapes_of, end_of}
 use Rattle.track_graph.specs.Guide.{Guide, InGuide, RunsInGuide}
 use Rattle.track_graph.proofs.Chip.{sides, no, tech, at, pin_at, chip, along, by_via, corner, corner_chip, stub_pin, stubbed, crossed_chip, short_way, straight_way}
-use Rattle.track_graph.proofs.Lists.{Any-cases, Any-none, Any-here, Any-there}
+use Rattle.rt_base.proofs.Lists.{Any-cases, Any-none, Any-here, Any-there}
 use Rattle.std.proofs.lemmas.Int.{ints}
 use Rattle.std.proofs.lemmas.Bool.{cases_lt}
 
@@ -46,7 +47,7 @@ via_at x y = ViaAt 0 (record { x = pos x; y = pos y })
 -- ---- from (100, 100) on the lower level to (900, 500) on the upper one
 
 -- 800 + 1000 + 400
-corner_cost : walk_cost corner_chip (hard_reading corner_chip (first_state corner_chip)) 0 corner ≡ 2200
+corner_cost : walk_cost corner_chip 0 (hard_reading corner_chip (first_state corner_chip)) corner ≡ 2200
 corner_cost = refl
 
 corner_strokes : walk_strokes corner_chip 0 corner ≡ run 0 100 100 900 100 ∷ via_at 900 100 ∷ run 1 900 100 900 500 ∷ []
@@ -63,7 +64,7 @@ spot = record { start = record { vertex = at 0 300 300; kind = AtPin 0 }; edges 
 abbrev spot_chip : Design
 spot_chip = chip (pin_at 0 0 300 300 ∷ pin_at 1 0 300 300 ∷ []) []
 
-spot_cost : walk_cost spot_chip (hard_reading spot_chip (first_state spot_chip)) 0 spot ≡ 0
+spot_cost : walk_cost spot_chip 0 (hard_reading spot_chip (first_state spot_chip)) spot ≡ 0
 spot_cost = refl
 
 spot_strokes : walk_strokes spot_chip 0 spot ≡ []
@@ -81,7 +82,7 @@ straight y = record {
 abbrev flat_chip : Design
 flat_chip = chip (pin_at 0 0 100 100 ∷ pin_at 1 0 900 100 ∷ []) []
 
-straight_cost : walk_cost flat_chip (hard_reading flat_chip (first_state flat_chip)) 0 (straight 100) ≡ 800
+straight_cost : walk_cost flat_chip 0 (hard_reading flat_chip (first_state flat_chip)) (straight 100) ≡ 800
 straight_cost = refl
 
 abbrev wire_shapes : ℕ → ℕ → List Shape
@@ -114,7 +115,7 @@ detour = record {
   finish = record { vertex = at 0 900 100; kind = AtPin 1 };
 }
 
-detour_cost : walk_cost flat_chip (hard_reading flat_chip (first_state flat_chip)) 0 detour ≡ 5600
+detour_cost : walk_cost flat_chip 0 (hard_reading flat_chip (first_state flat_chip)) detour ≡ 5600
 detour_cost = refl
 
 detour_clear : some_conflict tech (walk_shapes_of flat_chip 0 detour) (blockage 249 251 ∷ []) ≡ false
@@ -137,7 +138,7 @@ abbrev stub_chip : Design
 stub_chip = chip (stub_pin ∷ pin_at 1 1 900 500 ∷ []) []
 
 -- 400 more
-stubbed_cost : walk_cost stub_chip (hard_reading stub_chip (first_state stub_chip)) 0 stubbed ≡ 2600
+stubbed_cost : walk_cost stub_chip 0 (hard_reading stub_chip (first_state stub_chip)) stubbed ≡ 2600
 stubbed_cost = refl
 
 stubbed_strokes : walk_strokes stub_chip 0 stubbed ≡ run 0 150 150 100 150 ∷ run 0 100 150 100 100 ∷ run 0 100 100 900 100 ∷ via_at 900 100 ∷ run 1 900 100 900 500 ∷ []
@@ -192,14 +193,14 @@ meeting_open r h =
 abbrev crossed : State
 crossed = state_of crossed_chip (Wire 0 short_way ∷ [])
 
-short_way_cost : walk_cost crossed_chip (hard_reading crossed_chip (first_state crossed_chip)) 0 short_way ≡ 2600
+short_way_cost : walk_cost crossed_chip 0 (hard_reading crossed_chip (first_state crossed_chip)) short_way ≡ 2600
 short_way_cost = refl
 
 straight_way_forbidden : some_conflict tech (walk_shapes_of crossed_chip 1 straight_way) (hard_reading crossed_chip crossed).forbidding ≡ true
 straight_way_forbidden = refl
 
 -- each of its five edges conflicts with net 0's wire
-soft_cost : walk_cost crossed_chip (soft_reading crossed_chip crossed 1) 1 straight_way ≡ 8000
+soft_cost : walk_cost crossed_chip 1 (soft_reading crossed_chip crossed 1) straight_way ≡ 8000
 soft_cost = refl
 
 soft_allows : some_conflict tech (walk_shapes_of crossed_chip 1 straight_way) (soft_reading crossed_chip crossed 1).forbidding ≡ false

@@ -14,6 +14,7 @@ use Rattle.rt_base.specs.declared.tech.Owner.TheVariants.{Net as OfNet, Nobody}
 use Rattle.rt_base.specs.declared.tech.Shape.{Shape}
 use Rattle.rt_base.specs.declared.tech.Tech.{Tech}
 use Rattle.rt_base.specs.declared.walk.Walk.{Walk}
+use Rattle.track_graph.specs.Readings.{hard_reading}
 use Rattle.track_graph.specs.declared.design.Design.{Design}
 use Rattle.track_graph.specs.declared.design.Net.{Net}
 use Rattle.track_graph.specs.declared.design.NetKind.{NetKind}
@@ -24,9 +25,9 @@ use Rattle.track_graph.specs.declared.history.NetState.{NetState}
 use Rattle.track_graph.specs.declared.history.State.{State}
 use Rattle.track_graph.specs.Metal.{Metal, shapes_of}
 use Rattle.track_graph.specs.Walks.{walk_shapes_of, walk_parts, parts_shapes}
-use Rattle.track_graph.specs.Rules.{every_net, standing, BreaksNoRule}
-use Rattle.track_graph.specs.States.{net_state, net_shapes, standing_from, with_mark, with_net, with_walk, join_pin, after, emptied, emptied_net, first_state, fresh, state_of}
-use Rattle.track_graph.specs.Searches.{hard_reading, IsLegal}
+use Rattle.track_graph.specs.Rules.{BreaksNoRule}
+use Rattle.track_graph.specs.States.{net_state, net_shapes, standing_from, with_mark, with_net, with_walk, join_pin, after, emptied, emptied_net, first_state, fresh, state_of, every_net, standing}
+use Rattle.track_graph.specs.Searches.{IsLegal}
 use Rattle.track_graph.specs.Histories.{IsRoutable, IsRight, IsHistory, IsHistoryFrom}
 use Rattle.track_graph.proofs.StateLemmas.{blank, length-emptied}
 

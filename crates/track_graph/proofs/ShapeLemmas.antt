@@ -11,9 +11,8 @@ use Rattle.rt_base.specs.declared.walk.Vertex.{Vertex}
 use Rattle.track_graph.specs.declared.design.Design.{Design}
 use Rattle.track_graph.specs.Designs.{IsDesign}
 use Rattle.rt_base.specs.Ranges.{IsWithin, IsPointWithin, AreSidesWithin}
-use Rattle.rt_base.specs.Geometry.{hull_of}
+use Rattle.rt_base.specs.Geometry.{hull_of, distance}
 use Rattle.track_graph.specs.Levels.{track_system_of, IsVertex, routing_from}
-use Rattle.track_graph.specs.Metal.{distance}
 
 -- a vertex stands within the die's bound
 pub vertex_within : (d : Design) (v : Vertex) → IsDesign d → IsVertex (track_system_of d) v → IsPointWithin (2 ^ 32) v.point

@@ -1,11 +1,13 @@
 -- Laws of states: what a change of one net leaves, and that blocks keep a state one of its design.
 use Rattle.std.proofs.Common.{◌≡◌, ◌≢◌, ◌⊎◌, ⊎_elim, inl, inr, ℕ, zero, suc, ◌<◌, List, [], ◌∷◌, ◌++◌, Bool, true, false, sym, refl, ap, ◌∙◌, subst, Some, None, Option, option_map, unwrap_or, length, slice_get, slice_set, replicate, All, Contains, arith}
 use Rattle.std.proofs.lemmas.List.{length-set, length-map, get_or-set_same, get_or-set_other, set_comm}
-use Rattle.std.proofs.lemmas.List.Elements.{All-tail}
+use Rattle.std.proofs.lemmas.List.Elements.{All-nil, All-push, All-tail}
 use Rattle.std.proofs.lemmas.Bool.{cases_eq}
 use Rattle.std.proofs.lemmas.Option.{unwrap_or-slice_get, slice_get-map}
 use Rattle.std.proofs.lemmas.Simd.{splat_is_map}
 use Rattle.rt_base.specs.declared.walk.Walk.{Walk}
+use Rattle.rt_base.proofs.Lists.{in_cons}
+use Rattle.track_graph.specs.NetWalks.{IsWalkOf}
 use Rattle.track_graph.specs.declared.design.Design.{Design}
 use Rattle.track_graph.specs.declared.design.Net.{Net}
 use Rattle.track_graph.specs.declared.design.Pin.{Pin}
@@ -86,10 +88,6 @@ emptied-keeps_none s n (m ∷ ns) l h =
     (subst (λ (k : ℕ). n < k) (sym (length-set s.nets m (emptied_net (net_state s m)))) l)
     (empty-has_none s n m l (inr h))
 
-in_cons : (a : ℕ) (xs : List ℕ) (b : ℕ) → Contains (a ∷ xs) b → (b ≡ a) ⊎ Contains xs b
-in_cons a xs b (zero, h, e) = inl (sym e)
-in_cons a xs b (suc k, h, e) = inr (k, omega arith, e)
-
 -- an emptied net has no walk
 pub emptied-has_none : (s : State) (n : ℕ) (ns : List ℕ) → n < length s.nets → Contains ns n → (net_state (emptied s ns) n).walks ≡ []
 emptied-has_none s n [] l c = absurd (omega (arith, c.1))
@@ -99,6 +97,13 @@ emptied-has_none s n (m ∷ ns) l c =
     (λ (e : n ≡ m). emptied-keeps_none (with_net s m (emptied_net (net_state s m))) n ns stays (empty-has_none s n m l (inl e)))
     (λ (later : Contains ns n). emptied-has_none (with_net s m (emptied_net (net_state s m))) n ns stays later)
     (in_cons m ns n c)
+
+-- the other nets stand as before
+pub emptied-others : (s : State) (ns : List ℕ) (n : ℕ) → (Contains ns n → ⊥) → net_state (emptied s ns) n ≡ net_state s n
+emptied-others s [] n h = refl
+emptied-others s (m ∷ ns) n h =
+    emptied-others (with_net s m (emptied_net (net_state s m))) ns n (λ c. h (suc c.0, omega (arith, c.1), c.2))
+    ∙ net_state-other s m n (emptied_net (net_state s m)) (λ e. h (0, omega arith, sym e))
 
 length-keep_first : (bs : List Bool) → length (keep_first bs) ≡ length bs
 length-keep_first [] = refl
@@ -113,8 +118,8 @@ length-set_at None bs = refl
 length-set_at (Some pin) bs = length-set bs pin true
 
 -- a change of one net that keeps the number of its pins
-with_net-kept : (d : Design) (s : State) (n : ℕ) (net : NetState) → IsStateOf d s → IsNetOf d n → length net.joined ≡ length (net_state s n).joined → IsStateOf d (with_net s n net)
-with_net-kept d s n net h l same =
+with_net-kept : (d : Design) (s : State) (n : ℕ) (net : NetState) → IsStateOf d s → IsNetOf d n → length net.joined ≡ length (net_state s n).joined → All (IsWalkOf d n) net.walks → IsStateOf d (with_net s n net)
+with_net-kept d s n net h l same walks =
     let within : n < length s.nets = subst (λ (k : ℕ). n < k) (sym h.nets) l in
     record {
       nets = length-set s.nets n net ∙ h.nets;
@@ -123,20 +128,27 @@ with_net-kept d s n net h l same =
           (ap (λ (x : NetState). length x.joined) (net_state-same s n net within) ∙ same ∙ h.pins n))
           (λ (other : m ≡ n → ⊥). ap (λ (x : NetState). length x.joined) (net_state-other s n m net other) ∙ h.pins m)
           (cases_eq m n);
+      walks = λ m. ⊎_elim
+          (λ (e : m ≡ n). subst (λ (k : ℕ). All (IsWalkOf d k) (net_state (with_net s n net) k).walks) (sym e)
+          (subst (λ (x : NetState). All (IsWalkOf d n) x.walks) (sym (net_state-same s n net within)) walks))
+          (λ (other : m ≡ n → ⊥). subst (λ (x : NetState). All (IsWalkOf d m) x.walks) (sym (net_state-other s n m net other)) (h.walks m))
+          (cases_eq m n);
     }
 
 pub emptied-kept : (d : Design) (s : State) (ns : List ℕ) → IsStateOf d s → All (IsNetOf d) ns → IsStateOf d (emptied s ns)
 emptied-kept d s [] h a = h
 emptied-kept d s (n ∷ ns) h a =
     emptied-kept d (with_net s n (emptied_net (net_state s n))) ns
-    (with_net-kept d s n (emptied_net (net_state s n)) h (a 0 n (omega arith)) (length-keep_first (net_state s n).joined))
+    (with_net-kept d s n (emptied_net (net_state s n)) h (a 0 n (omega arith)) (length-keep_first (net_state s n).joined) (All-nil (IsWalkOf d n)))
     (All-tail (IsNetOf d) n ns a)
 
 pub with_mark-kept : (d : Design) (s : State) (n : ℕ) → IsStateOf d s → IsNetOf d n → IsStateOf d (with_mark s n)
-with_mark-kept d s n h l = with_net-kept d s n _ h l refl
+with_mark-kept d s n h l = with_net-kept d s n _ h l refl (h.walks n)
 
-pub with_walk-kept : (d : Design) (s : State) (n : ℕ) (w : Walk) → IsStateOf d s → IsNetOf d n → IsStateOf d (with_walk s n w)
-with_walk-kept d s n w h l = with_net-kept d s n (longer (net_state s n) w) h l (length-set_at (pin_of w.finish.kind) (net_state s n).joined)
+pub with_walk-kept : (d : Design) (s : State) (n : ℕ) (w : Walk) → IsStateOf d s → IsWalkOf d n w → IsStateOf d (with_walk s n w)
+with_walk-kept d s n w h walk =
+    with_net-kept d s n (longer (net_state s n) w) h walk.net_walk.net (length-set_at (pin_of w.finish.kind) (net_state s n).joined)
+    (All-push (IsWalkOf d n) (net_state s n).walks w (h.walks n) walk)
 
 fresh-pins : (o : Option Net) → length (unwrap_or (option_map fresh o) blank).joined ≡ length (unwrap_or (option_map (λ (net : Net). net.pins) o) [])
 fresh-pins None = refl
@@ -159,4 +171,12 @@ pub first-kept : (d : Design) → IsStateOf d (first_state d)
 first-kept d = record {
   nets = length-map d.nets fresh;
   pins = λ n. ap (λ (o : Option NetState). length (unwrap_or o blank).joined) (slice_get-map fresh d.nets n) ∙ fresh-pins (slice_get d.nets n);
+  walks = λ n. subst (λ (ws : List Walk). All (IsWalkOf d n) ws) (sym (none n)) (All-nil (IsWalkOf d n));
 }
+  where
+    fresh-none : (o : Option Net) → (unwrap_or (option_map fresh o) blank).walks ≡ []
+    fresh-none None = refl
+    fresh-none (Some net) = refl
+
+    none : (n : ℕ) → (net_state (first_state d) n).walks ≡ []
+    none n = ap (λ (o : Option NetState). (unwrap_or o blank).walks) (slice_get-map fresh d.nets n) ∙ fresh-none (slice_get d.nets n)

@@ -1,33 +1,35 @@
--- What makes a block or a state one of a design: its numbers are in range.
-use Rattle.std.specs.Prelude.{◌≡◌, ℕ, ◌<◌, List, length, All, IsSomeAnd}
+-- What makes a block, a journal or a state one of a design: its nets, pins, entries, vertices and edges exist, the edges of each walk follow each other, and each walk finishes where they end, at an entry of a pin.
+use Rattle.std.specs.Prelude.{◌≡◌, ℕ, ◌<◌, List, length, All}
 use Rattle.rt_base.specs.declared.walk.Walk.{Walk}
 use Rattle.track_graph.specs.declared.design.Design.{Design}
 use Rattle.track_graph.specs.declared.history.Block.{Block}
 use Rattle.track_graph.specs.declared.history.Block.TheVariants.{Wire, Stuck, RipFor}
 use Rattle.track_graph.specs.declared.history.State.{State}
-use Rattle.track_graph.specs.Entries.{pins_of, pin_of}
+use Rattle.track_graph.specs.Entries.{pins_of}
+use Rattle.track_graph.specs.NetWalks.{IsWalkOf}
 use Rattle.track_graph.specs.States.{net_state}
 
 abbrev pub IsNetOf : Design → ℕ → Type 0
 IsNetOf d n = n < length d.nets
 
--- net n is one of the design's, and the walk finishes at an entry of one of its pins
-pub record IsWireOf (d : Design) (n : ℕ) (w : Walk) : Type 0 where
-  pub net : IsNetOf d n
-  pub finish : IsSomeAnd (pin_of w.finish.kind) (λ pin. pin < length (pins_of d n))
-
--- and the nets that are ripped are the design's
-pub record IsRipOf (d : Design) (n : ℕ) (ripped : List ℕ) (w : Walk) : Type 0 where
+-- both walks are of net n, and the nets that are ripped are the design's
+pub record IsRipOf (d : Design) (n : ℕ) (soft : Walk) (ripped : List ℕ) (w : Walk) : Type 0 where
   pub nets : All (IsNetOf d) ripped
-  pub wire : IsWireOf d n w
+  pub soft_walk : IsWalkOf d n soft
+  pub walk : IsWalkOf d n w
 
--- the nets and the pin that a block names are the design's
+-- a block of the design
 abbrev pub IsBlockOf : Design → Block → Type 0
-IsBlockOf d (Wire n w) = IsWireOf d n w
+IsBlockOf d (Wire n w) = IsWalkOf d n w
 IsBlockOf d (Stuck n) = IsNetOf d n
-IsBlockOf d (RipFor n soft ripped w) = IsRipOf d n ripped w
+IsBlockOf d (RipFor n soft ripped w) = IsRipOf d n soft ripped w
 
--- the state has each net of the design, and tells of each of its pins whether it is joined
+-- a journal of the design
+abbrev pub IsJournalOf : Design → List Block → Type 0
+IsJournalOf d blocks = All (IsBlockOf d) blocks
+
+-- the state has each net of the design, tells of each of its pins whether it is joined, and has no walk but of the net
 pub record IsStateOf (d : Design) (s : State) : Type 0 where
   pub nets : length s.nets ≡ length d.nets
   pub pins : (n : ℕ) → length (net_state s n).joined ≡ length (pins_of d n)
+  pub walks : (n : ℕ) → All (IsWalkOf d n) (net_state s n).walks

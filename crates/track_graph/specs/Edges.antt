@@ -1,5 +1,5 @@
 -- Edges of the track graph: along a track, and by a via (LEF 5.8, VIA DEFAULT; Gester and others 2013).
-use Rattle.std.specs.Prelude.{◌≡◌, ◌≢◌, ◌⊎◌, ℕ, ◌+◌, ℤ, ◌<ℤ◌, List, [], ◌∷◌, IsTrue, slice_get, Some, Any, Contains}
+use Rattle.std.specs.Prelude.{◌≡◌, ◌≢◌, ◌⊎◌, ℕ, ◌+◌, ℤ, List, [], ◌∷◌, IsTrue, slice_get, Some}
 use Rattle.std.specs.Int.{int_min, int_max}
 use Rattle.rt_base.specs.declared.tech.Tech.{Tech}
 use Rattle.rt_base.specs.declared.tech.Via.{Via}
@@ -8,13 +8,10 @@ use Rattle.rt_base.specs.declared.walk.Edge.{Edge}
 use Rattle.rt_base.specs.declared.walk.EdgeKind.{EdgeKind}
 use Rattle.rt_base.specs.declared.walk.EdgeKind.TheVariants.{Along, Via as ByVia}
 use Rattle.track_graph.specs.declared.design.Design.{Design}
-use Rattle.track_graph.specs.Levels.{TrackSystem, IsVertex, along, line_of, positions_of, layer_no}
+use Rattle.track_graph.specs.Levels.{TrackSystem, IsVertex, NoneBetween, along, line_of, positions_of}
 use Rattle.track_graph.specs.Guide.{Guide, InGuide, RunsInGuide}
-use Rattle.track_graph.specs.Metal.{Metal, distance, wire_metal, via_metal}
-
--- no number of a list stands strictly between two
-abbrev pub NoneBetween : List ℤ → ℤ → ℤ → Type 0
-NoneBetween numbers low high = (z : ℤ) → Contains numbers z → low <ℤ z → z <ℤ high → ⊥
+use Rattle.track_graph.specs.Metal.{Metal, wire_metal, via_metal, JoinsLevels}
+use Rattle.rt_base.specs.Geometry.{distance}
 
 -- two different numbers with no position strictly between them
 abbrev pub AreNeighbours : List ℤ → ℤ → ℤ → Type 0
@@ -26,17 +23,12 @@ pub record IsAlong (g : TrackSystem) (v w : Vertex) : Type 0 where
   pub line : line_of g.tech v.level v.point ≡ line_of g.tech v.level w.point
   pub neighbours : AreNeighbours (positions_of g.tracks v.level) (along g.tech v.level v.point) (along g.tech v.level w.point)
 
--- a via has a rectangle on the layer of a level
-abbrev pub HasLevel : Tech → Via → ℕ → Type 0
-HasLevel tech via level = Any (λ (r : Metal). r.0.0 ≡ layer_no tech level) via.rects
-
 -- via k is usable, and joins a level and the next one up
 pub record Joins (tech : Tech) (k level : ℕ) : Type 0 where
   pub via : Via
   pub is_via : slice_get tech.vias k ≡ Some via
   pub usable : IsTrue via.usable
-  pub lower : HasLevel tech via level
-  pub upper : HasLevel tech via (level + 1)
+  pub levels : JoinsLevels tech via.rects level
 
 -- two neighbouring levels at one point, joined by via k
 pub record IsVia (tech : Tech) (k : ℕ) (v w : Vertex) : Type 0 where

@@ -1,8 +1,7 @@
 -- Entries of pins: the vertices in a pin's rectangles, or else stubs to vertices nearby.
 use Rattle.std.specs.Prelude.{◌≡◌, ◌⊎◌, ℕ, ◌*◌, ◌≤◌, ◌==◌, ℤ, pos, List, [], ◌∷◌, ◌++◌, if◌then◌else◌, slice_get, Some, None, Option, Any, option_map, unsigned_abs, unwrap_or}
-use Rattle.std.specs.Int.{int_min, int_max}
 use Rattle.rt_base.specs.Sides.{Sides}
-use Rattle.rt_base.specs.Geometry.{Holds}
+use Rattle.rt_base.specs.Geometry.{Holds, distance, nearest_point}
 use Rattle.rt_base.specs.declared.geometry.Point.{Point}
 use Rattle.rt_base.specs.declared.tech.Tech.{Tech}
 use Rattle.rt_base.specs.declared.walk.Vertex.{Vertex}
@@ -13,15 +12,7 @@ use Rattle.track_graph.specs.declared.design.Design.{Design}
 use Rattle.track_graph.specs.declared.design.Net.{Net}
 use Rattle.track_graph.specs.declared.design.Pin.{Pin}
 use Rattle.track_graph.specs.Levels.{TrackSystem, IsVertex, layer_no}
-use Rattle.track_graph.specs.Metal.{Metal, distance, wire_metal}
-
--- the point of a range that is nearest to z
-abbrev pub nearest : ℤ → ℤ → ℤ → ℤ
-nearest lo hi z = int_max lo (int_min hi z)
-
--- the nearest point of a rectangle
-abbrev pub nearest_point : Sides → Point → Point
-nearest_point s p = record { x = nearest s.xl s.xh p.x; y = nearest s.yl s.yh p.y }
+use Rattle.track_graph.specs.Metal.{Metal, wire_metal}
 
 -- a vertex inside a rectangle of the pin on its level's layer
 pub record IsPinEntry (g : TrackSystem) (pin : ℕ) (rects : List Metal) (e : Entry) : Type 0 where

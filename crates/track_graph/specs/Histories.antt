@@ -10,8 +10,9 @@ use Rattle.track_graph.specs.declared.history.Block.TheVariants.{Wire, Stuck, Ri
 use Rattle.track_graph.specs.declared.history.NetState.{NetState}
 use Rattle.track_graph.specs.declared.history.State.{State}
 use Rattle.track_graph.specs.Walks.{walk_shapes_of}
-use Rattle.track_graph.specs.States.{net_state, net_shapes, emptied, after, first_state, state_of}
-use Rattle.track_graph.specs.Searches.{hard_reading, soft_reading, may_rip, some_conflict, IsLeast, NoneLegal}
+use Rattle.track_graph.specs.States.{net_state, net_shapes, after, first_state, state_of}
+use Rattle.track_graph.specs.Readings.{hard_reading, soft_reading, reading_without, may_rip}
+use Rattle.track_graph.specs.Searches.{some_conflict, IsLeast, NoneLegal}
 
 abbrev pub IsRoutable : Design → ℕ → Type 0
 IsRoutable d n = option_map (λ (net : Net). net.kind) (slice_get d.nets n) ≡ Some Routable
@@ -33,21 +34,21 @@ crossed_from d n soft m (net ∷ nets) =
 
 pub record IsWireRight (d : Design) (s : State) (n : ℕ) (w : Walk) : Type 0 where
   pub waiting : IsWaiting d s n
-  pub walk : IsLeast d s (hard_reading d s) n w
+  pub walk : IsLeast d n (net_state s n) (hard_reading d s) w
 
 pub record IsStuckRight (d : Design) (s : State) (n : ℕ) : Type 0 where
   pub waiting : IsWaiting d s n
-  pub none : NoneLegal d s (hard_reading d s) n
-  pub soft_none : NoneLegal d s (soft_reading d s n) n
+  pub none : NoneLegal d n (net_state s n) (hard_reading d s)
+  pub soft_none : NoneLegal d n (net_state s n) (soft_reading d s n)
 
--- no walk is legal; exactly the nets that a least soft walk crosses are ripped, and the walk is least without them
+-- no walk is legal; exactly the nets that a least soft walk crosses are ripped, and the walk is least with them emptied
 pub record IsRipRight (d : Design) (s : State) (n : ℕ) (soft : Walk) (ripped : List ℕ) (w : Walk) : Type 0 where
   pub waiting : IsWaiting d s n
-  pub none : NoneLegal d s (hard_reading d s) n
-  pub soft_least : IsLeast d s (soft_reading d s n) n soft
+  pub none : NoneLegal d n (net_state s n) (hard_reading d s)
+  pub soft_least : IsLeast d n (net_state s n) (soft_reading d s n) soft
   pub ripped_exactly : ripped ≡ crossed_from d n soft 0 s.nets
   pub some_ripped : ripped ≢ []
-  pub walk : IsLeast d (emptied s ripped) (hard_reading d (emptied s ripped)) n w
+  pub walk : IsLeast d n (net_state s n) (reading_without d s ripped) w
 
 -- a block is right in a state
 abbrev pub IsRight : Design → State → Block → Type 0

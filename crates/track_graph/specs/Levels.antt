@@ -1,5 +1,5 @@
 -- Levels, tracks and vertices (DEF 5.8, TRACKS; the track graph of Gester and others 2013).
-use Rattle.std.specs.Prelude.{ℕ, ◌+◌, ◌<◌, ℤ, pos, List, [], ◌∷◌, ◌++◌, Bool, false, if◌then◌else◌, length, slice_get, option_map, unwrap_or, Contains, zero, suc}
+use Rattle.std.specs.Prelude.{ℕ, ◌+◌, ◌<◌, ℤ, ◌<ℤ◌, pos, AllPairs, List, [], ◌∷◌, ◌++◌, Bool, false, if◌then◌else◌, length, slice_get, option_map, unwrap_or, Contains, zero, suc}
 use Rattle.rt_base.specs.declared.tech.Layer.{Layer}
 use Rattle.rt_base.specs.declared.tech.Tech.{Tech}
 use Rattle.rt_base.specs.declared.geometry.Point.{Point}
@@ -49,6 +49,18 @@ along tech level p = if is_horizontal tech level then p.x else p.y
 
 abbrev pub line_of : Tech → ℕ → Point → ℤ
 line_of tech level p = if is_horizontal tech level then p.y else p.x
+
+-- the vertex at a position of a line of a level
+abbrev pub vertex_at : Tech → ℕ → ℤ → ℤ → Vertex
+vertex_at tech level line position =
+    record { level = level; point = if is_horizontal tech level then record { x = position; y = line } else record { x = line; y = position } }
+
+abbrev pub IsAscending : List ℤ → Type 0
+IsAscending numbers = AllPairs (λ a b. a <ℤ b) numbers
+
+-- no number of a list stands strictly between two
+abbrev pub NoneBetween : List ℤ → ℤ → ℤ → Type 0
+NoneBetween numbers low high = (z : ℤ) → Contains numbers z → low <ℤ z → z <ℤ high → ⊥
 
 -- the track lines of a level
 abbrev pub lines_of : Tracks → ℕ → List ℤ

@@ -1,5 +1,5 @@
 -- Rectangles of wires and vias on their layers.
-use Rattle.std.specs.Prelude.{ℕ, ◌+◌, ◌/◌, ℤ, pos, ◌+ℤ◌, ◌-ℤ◌, List, [], ◌∷◌, ◌==◌, if◌then◌else◌, false, map, slice_get, option_map, unwrap_or, unsigned_abs}
+use Rattle.std.specs.Prelude.{◌≡◌, ℕ, ◌+◌, ◌/◌, ◌<◌, length, ℤ, pos, Any, List, [], ◌∷◌, ◌==◌, if◌then◌else◌, false, map, slice_get, option_map, unwrap_or, unsigned_abs}
 use Rattle.std.specs.List.{list_any}
 use Rattle.rt_base.specs.Sides.{Sides}
 use Rattle.rt_base.specs.declared.geometry.Point.{Point}
@@ -9,20 +9,12 @@ use Rattle.rt_base.specs.declared.tech.Owner.TheVariants.{Net as OfNet}
 use Rattle.rt_base.specs.declared.tech.Shape.{Shape}
 use Rattle.rt_base.specs.declared.tech.Tech.{Tech}
 use Rattle.rt_base.specs.declared.tech.Via.{Via}
-use Rattle.rt_base.specs.Geometry.{hull_of, moved}
+use Rattle.rt_base.specs.Geometry.{hull_of, moved, grown}
 use Rattle.track_graph.specs.Levels.{layer_no, levels, width_of}
 
 -- a rectangle on a layer
 abbrev pub Metal : Type 0
 Metal = LayerNo × Sides
-
--- the distance in x plus the distance in y
-abbrev pub distance : Point → Point → ℕ
-distance p q = unsigned_abs (p.x -ℤ q.x) + unsigned_abs (p.y -ℤ q.y)
-
--- a rectangle made larger by h on each side
-abbrev pub grown : Sides → ℤ → Sides
-grown s h = record { xl = s.xl -ℤ h; yl = s.yl -ℤ h; xh = s.xh +ℤ h; yh = s.yh +ℤ h }
 
 abbrev pub half_width : Tech → ℕ → ℤ
 half_width tech level = pos (unsigned_abs (width_of tech level) / 2)
@@ -38,6 +30,16 @@ via_rects tech k = unwrap_or (option_map (λ (v : Via). v.rects) (slice_get tech
 -- the rectangles of a via at a point
 abbrev pub via_metal : Tech → ℕ → Point → List Metal
 via_metal tech k p = map (λ (r : Metal). (r.0, moved p r.1)) (via_rects tech k)
+
+-- a rectangle stands on the layer of a level
+abbrev pub HasLevel : Tech → List Metal → ℕ → Type 0
+HasLevel tech rects level = Any (λ (r : Metal). r.0.0 ≡ layer_no tech level) rects
+
+-- the rectangles of a via join a level and the next one up: one stands on each
+pub record JoinsLevels (tech : Tech) (rects : List Metal) (level : ℕ) : Type 0 where
+  pub upper_level : level + 1 < length (levels tech)
+  pub lower : HasLevel tech rects level
+  pub upper : HasLevel tech rects (level + 1)
 
 -- the name of the first of these levels on which there is a rectangle, empty where there is none
 abbrev pub first_level_name : List (ℕ × Layer) → List Metal → List ℕ

@@ -1,16 +1,15 @@
 -- The order in which nets are taken: by half the perimeter of the hull of their pins, then by number.
-use Rattle.std.specs.Prelude.{◌≡◌, ◌⊎◌, ◌↔◌, ℕ, ◌+◌, ◌<◌, List, [], ◌∷◌, flat_map, fold, Contains, AllPairs, unsigned_abs, ◌-ℤ◌}
-use Rattle.std.specs.Int.{int_min, int_max}
+use Rattle.std.specs.Prelude.{◌≡◌, ◌⊎◌, ◌↔◌, ℕ, ◌+◌, ◌<◌, ◌==◌, if◌then◌else◌, List, [], ◌∷◌, flat_map, fold, Contains, AllPairs, unsigned_abs, ◌-ℤ◌}
+use Rattle.std.specs.List.{list_any}
 use Rattle.rt_base.specs.Sides.{Sides}
+use Rattle.rt_base.specs.Geometry.{hull_of_sides}
 use Rattle.track_graph.specs.declared.design.Design.{Design}
 use Rattle.track_graph.specs.declared.design.Pin.{Pin}
 use Rattle.track_graph.specs.Metal.{Metal}
 use Rattle.track_graph.specs.Entries.{pins_of}
+use Rattle.track_graph.specs.declared.history.Block.{Block}
+use Rattle.track_graph.specs.declared.history.Block.TheVariants.{Wire, Stuck, RipFor}
 use Rattle.track_graph.specs.Histories.{IsRoutable}
-
--- the smallest rectangle that holds two
-abbrev pub hull_of_sides : Sides → Sides → Sides
-hull_of_sides a b = record { xl = int_min a.xl b.xl; yl = int_min a.yl b.yl; xh = int_max a.xh b.xh; yh = int_max a.yh b.yh }
 
 abbrev pub half_perimeter : Sides → ℕ
 half_perimeter s = unsigned_abs (s.xh -ℤ s.xl) + unsigned_abs (s.yh -ℤ s.yl)
@@ -27,7 +26,22 @@ net_extent d n = hull_extent (flat_map (λ (p : Pin). p.rects) (pins_of d n))
 abbrev pub IsBefore : Design → ℕ → ℕ → Type 0
 IsBefore d m n = (net_extent d m < net_extent d n) ⊎ ((net_extent d m ≡ net_extent d n) × (m < n))
 
--- exactly the routable nets, each before those behind it
+-- exactly the routable nets, each before those after it
 pub record IsOrder (d : Design) (nets : List ℕ) : Type 0 where
   pub has : (n : ℕ) → Contains nets n ↔ IsRoutable d n
   pub ordered : AllPairs (IsBefore d) nets
+
+-- the net that a block is of
+abbrev pub net_of : Block → ℕ
+net_of (Wire n w) = n
+net_of (Stuck n) = n
+net_of (RipFor n soft ripped w) = n
+
+-- the nets of blocks, each where its first block stands; these were taken before
+abbrev pub first_taken : List ℕ → List Block → List ℕ
+first_taken taken [] = []
+first_taken taken (b ∷ bs) = if list_any (λ n. n == net_of b) taken then first_taken taken bs else net_of b ∷ first_taken (net_of b ∷ taken) bs
+
+-- the nets are first taken in their order
+abbrev pub AreTakenInOrder : Design → List Block → Type 0
+AreTakenInOrder d blocks = AllPairs (IsBefore d) (first_taken [] blocks)

@@ -1,18 +1,10 @@
 -- The rules of spacing, as they hold of a state: no wire comes too near to another net's shape.
-use Rattle.std.specs.Prelude.{◌≡◌, ℕ, List, ◌++◌, Bool, true, false, Contains}
+use Rattle.std.specs.Prelude.{◌≡◌, ◌++◌, false, Contains}
 use Rattle.rt_base.specs.declared.tech.Shape.{Shape}
 use Rattle.rt_base.specs.Conflict.{conflict_of}
 use Rattle.track_graph.specs.declared.design.Design.{Design}
-use Rattle.track_graph.specs.declared.history.NetState.{NetState}
 use Rattle.track_graph.specs.declared.history.State.{State}
-use Rattle.track_graph.specs.States.{standing_from}
-
-abbrev pub every_net : ℕ → NetState → Bool
-every_net n net = true
-
--- the shapes of all standing walks
-abbrev pub standing : Design → State → List Shape
-standing d s = standing_from d every_net 0 s.nets
+use Rattle.track_graph.specs.States.{standing}
 
 -- no standing shape conflicts with a fixed or a standing one
 abbrev pub BreaksNoRule : Design → State → Type 0

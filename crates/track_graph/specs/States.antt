@@ -83,3 +83,10 @@ net_shapes d n net = flat_map (walk_shapes_of d n) net.walks
 abbrev pub standing_from : Design → (ℕ → NetState → Bool) → ℕ → List NetState → List Shape
 standing_from d test n [] = []
 standing_from d test n (net ∷ nets) = (if test n net then net_shapes d n net else []) ++ standing_from d test (n + 1) nets
+
+abbrev pub every_net : ℕ → NetState → Bool
+every_net n net = true
+
+-- the shapes of all standing walks
+abbrev pub standing : Design → State → List Shape
+standing d s = standing_from d every_net 0 s.nets

@@ -13,8 +13,8 @@ use Rattle.rt_base.specs.declared.walk.Walk.{Walk}
 use Rattle.track_graph.specs.declared.design.Design.{Design}
 use Rattle.track_graph.specs.declared.history.Stroke.{Stroke}
 use Rattle.track_graph.specs.declared.history.Stroke.TheVariants.{Run, Via as ViaAt}
-use Rattle.track_graph.specs.Metal.{distance}
-use Rattle.track_graph.specs.Entries.{nearest_point, corner_of, rect_of}
+use Rattle.rt_base.specs.Geometry.{distance, nearest_point}
+use Rattle.track_graph.specs.Entries.{corner_of, rect_of}
 
 -- a run, or nothing where its ends are one point
 abbrev pub run_between : ℕ → Point → Point → List Stroke

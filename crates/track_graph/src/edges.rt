@@ -1,26 +1,18 @@
 //! Edges: along a track, and by a via.
-ghost use Rattle.std.specs.Prelude.{◌≡◌, ℕ, ◌+◌, ◌^◌, ◌<◌, ◌<ℤ◌, ◌≤ℤ◌, ◌↔◌, IsTrue, AllPairs};
-ghost use Rattle.std.specs.List.Sorted.{IsPartitionPoint};
-ghost use Rattle.track_graph.specs.Designs.{IsDesign};
-ghost use Rattle.track_graph.specs.Edges.{NoneBetween, AreNeighbours, IsAlong, HasLevel, Joins, IsVia, IsEdge, edge_cost_of};
-ghost use Rattle.track_graph.specs.Levels.{track_system_of, positions_of};
-ghost use Rattle.track_graph.specs.Metal.{distance};
+ghost use Rattle.std.specs.Prelude.{◌≡◌, ◌↔◌, IsTrue};
+ghost use Rattle.track_graph.specs.Designs.{IsDesign, IsTech};
+ghost use Rattle.track_graph.specs.Edges.{AreNeighbours, IsAlong, Joins, IsVia, IsEdge, edge_cost_of};
+ghost use Rattle.track_graph.specs.Levels.{IsAscending, NoneBetween, track_system_of, positions_of};
 
 use crate::design::Design;
-use crate::levels::{along_of, is_vertex, level_layer, level_lines, line_at, lines_under};
-use rt_base::{Edge, EdgeKind, Point, Tech, Vertex, Via};
-
-/// How many of these numbers, which ascend, are at most a bound.
-fn count_up_to(lines: &[i64], most: i64) -> usize
-    requires { AllPairs (λ a b. a <ℤ b) lines.now }
-    ensures { IsPartitionPoint (λ y. y ≤ℤ most) (λ y. most <ℤ y) lines.now result }
-{
-    lines.partition_point(|z| *z <= most)
-}
+use crate::levels::{along_of, is_vertex, level_lines, line_at, lines_under};
+use crate::lines::count_up_to;
+use crate::vias::joins_levels;
+use rt_base::{Edge, EdgeKind, Tech, Vertex};
 
 /// Whether none of these numbers, which ascend, stands strictly between two.
 fn is_gap(lines: &[i64], low: i64, high: i64) -> bool
-    requires { AllPairs (λ a b. a <ℤ b) lines.now }
+    requires { IsAscending lines.now }
     ensures { IsTrue result ↔ NoneBetween lines.now low high }
 {
     match lines.get(count_up_to(lines, low)) {
@@ -62,20 +54,9 @@ fn is_along_edge(design: &Design, v: Vertex, w: Vertex) -> bool
     are_neighbours(design, v.level, from, to)
 }
 
-/// Whether a via has a rectangle on the layer of a level.
-fn has_level(tech: &Tech, via: &Via, level: u8) -> bool
-    ensures { IsTrue result ↔ HasLevel tech.now via.now level }
-{
-    let layer = match level_layer(tech, level) {
-        Some((number, _)) => number,
-        None => 0,
-    };
-    via.rects.as_slice().iter().any(|r| r.0.0 as usize == layer)
-}
-
-/// Whether a via is usable and joins these two levels, the second right above the first.
-fn joins(tech: &Tech, via: u32, lower: u8, upper: u8) -> bool
-    requires { upper ≡ lower + 1 }
+/// Whether a via is usable and joins a level and the next one up.
+fn joins(tech: &Tech, via: u32, lower: u8) -> bool
+    requires { IsTech tech.now }
     ensures { IsTrue result ↔ Joins tech.now via lower }
 {
     let Some(via) = tech.vias.as_slice().get(via as usize) else {
@@ -84,23 +65,21 @@ fn joins(tech: &Tech, via: u32, lower: u8, upper: u8) -> bool
     if !via.usable {
         return false;
     }
-    if !has_level(tech, via, lower) {
-        return false;
-    }
-    has_level(tech, via, upper)
+    joins_levels(tech, via.rects.as_slice(), lower)
 }
 
 /// Whether two neighbouring levels at one point are joined by the via.
 fn is_via_edge(tech: &Tech, via: u32, v: Vertex, w: Vertex) -> bool
+    requires { IsTech tech.now }
     ensures { IsTrue result ↔ IsVia tech.now via v w }
 {
     if v.point != w.point {
         return false;
     }
     if v.level < w.level {
-        return w.level - v.level == 1 && joins(tech, via, v.level, w.level);
+        return w.level - v.level == 1 && joins(tech, via, v.level);
     }
-    v.level != w.level && v.level - w.level == 1 && joins(tech, via, w.level, v.level)
+    v.level != w.level && v.level - w.level == 1 && joins(tech, via, w.level)
 }
 
 /// Whether the edge is one of the design's: it leads from a vertex to a vertex, along a track to a
@@ -121,14 +100,6 @@ pub fn is_edge(design: &Design, v: Vertex, e: &Edge) -> bool
     }
 }
 
-/// The distance in x plus the distance in y.
-pub(crate) fn units_between(p: Point, q: Point) -> u64
-    requires { distance p q < 2 ^ 64 }
-    ensures { result ≡ distance p q }
-{
-    p.x.abs_diff(q.x) + p.y.abs_diff(q.y)
-}
-
 /// What an edge costs: 1 for each unit along a track, and what the user chose for a via. Takes no
 /// memory.
 pub fn edge_cost(design: &Design, v: Vertex, e: &Edge) -> u64
@@ -137,7 +108,7 @@ pub fn edge_cost(design: &Design, v: Vertex, e: &Edge) -> u64
     ensures { result ≡ edge_cost_of design.now v e.now }
 {
     match e.kind {
-        EdgeKind::Along => units_between(v.point, e.to.point),
+        EdgeKind::Along => v.point.distance(e.to.point),
         EdgeKind::Via(_) => design.options.via,
     }
 }

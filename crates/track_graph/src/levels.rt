@@ -1,8 +1,8 @@
 //! Levels and vertices: the routing layers, counted from the bottom, and their tracks.
-ghost use Rattle.std.specs.Prelude.{◌≡◌, ℕ, ◌↔◌, ◌+◌, ◌<ℤ◌, IsTrue, Some, None, MatchOption, slice_get, option_map, AllPairs, Contains};
+ghost use Rattle.std.specs.Prelude.{◌≡◌, ℕ, ◌↔◌, ◌+◌, IsTrue, Some, None, MatchOption, slice_get, option_map, Contains};
 ghost use Rattle.rt_base.specs.Geometry.{Holds};
 ghost use Rattle.track_graph.specs.Designs.{IsDesign};
-ghost use Rattle.track_graph.specs.Levels.{levels, number_of, is_horizontal, layer_name_of, lines_of, lines_below, positions_of, along, line_of, track_system_of, IsVertex};
+ghost use Rattle.track_graph.specs.Levels.{levels, number_of, is_horizontal, layer_name_of, lines_of, lines_below, positions_of, along, line_of, track_system_of, vertex_at, IsAscending, IsVertex};
 
 use crate::design::{Design, Tracks};
 use rt_base::{Layer, Point, Tech, Vertex};
@@ -46,8 +46,8 @@ pub fn layer_name(tech: &Tech, level: u8) -> &[u8]
     }
 }
 
-/// Whether a level's tracks run in x; false where there is no such level.
-fn is_level_horizontal(tech: &Tech, level: u8) -> bool
+/// Whether a level's tracks run in x; false where there is no such level. Takes no memory.
+pub fn is_level_horizontal(tech: &Tech, level: u8) -> bool
     ensures { result ≡ is_horizontal tech.now level }
 {
     match level_layer(tech, level) {
@@ -78,9 +78,28 @@ pub fn line_at(tech: &Tech, level: u8, p: Point) -> i64
     }
 }
 
+/// The vertex at a position of a line of a level, whether it is one of the design's or not. Takes no
+/// memory.
+pub fn vertex_at(tech: &Tech, level: u8, line: i64, position: i64) -> Vertex
+    ensures { result ≡ vertex_at tech.now level line position }
+{
+    let point = if is_level_horizontal(tech, level) {
+        Point {
+            x: position,
+            y: line,
+        }
+    } else {
+        Point {
+            x: line,
+            y: position,
+        }
+    };
+    Vertex { level, point }
+}
+
 /// Whether a number is one of these, which ascend.
 fn is_among(lines: &[i64], z: i64) -> bool
-    requires { AllPairs (λ a b. a <ℤ b) lines.now }
+    requires { IsAscending lines.now }
     ensures { IsTrue result ↔ Contains lines.now z }
 {
     lines.binary_search(&z).is_ok()

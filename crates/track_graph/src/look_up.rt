@@ -2,6 +2,7 @@
 ghost use Rattle.std.specs.Prelude.{◌≡◌, ◌==◌};
 ghost use Rattle.std.specs.List.{list_any};
 ghost use Rattle.track_graph.specs.Entries.{net_name_of};
+ghost use Rattle.track_graph.specs.Searches.{guide_of};
 ghost use Rattle.track_graph.specs.Metal.{Metal, via_rects, via_name_of, via_level_name};
 
 use crate::design::Design;
@@ -13,6 +14,16 @@ pub fn net_name(design: &Design, net: u32) -> &[u8]
 {
     match design.nets.as_slice().get(net as usize) {
         Some(net) => net.name.bytes(),
+        None => &[],
+    }
+}
+
+/// The boxes of a net's guide, each with its level, none where there is no such net. Takes no memory.
+pub fn guide_of(design: &Design, net: u32) -> &[(u8, Rect)]
+    ensures { result.now ≡ guide_of design.now net }
+{
+    match design.nets.as_slice().get(net as usize) {
+        Some(net) => net.guide.as_slice(),
         None => &[],
     }
 }

@@ -1,12 +1,12 @@
 //! Shapes that edges, entries and walks put down.
 ghost use Rattle.std.specs.Prelude.{◌≡◌, ℕ, ◌++◌, ◌^◌, ◌<◌, ◌≤ℤ◌, pos, length, OnOk, IfOk};
 ghost use Rattle.track_graph.specs.Designs.{IsDesign, IsTech};
-ghost use Rattle.rt_base.specs.Ranges.{IsPointWithin, AreSidesWithin};
+ghost use Rattle.rt_base.specs.Ranges.{IsPointWithin};
 ghost use Rattle.track_graph.specs.Edges.{IsEdge, edge_metal};
 ghost use Rattle.track_graph.specs.Entries.{piece_metal, stub_metal, entry_part};
 ghost use Rattle.rt_base.specs.Geometry.{hull_of};
 ghost use Rattle.track_graph.specs.Levels.{track_system_of, layer_no};
-ghost use Rattle.track_graph.specs.Metal.{grown, half_width, wire_metal, via_metal, shape_of, shapes_of};
+ghost use Rattle.track_graph.specs.Metal.{half_width, wire_metal, via_metal, shape_of, shapes_of};
 ghost use Rattle.rt_base.specs.Geometry.{moved};
 ghost use Rattle.track_graph.specs.NetWalks.{IsNetEntry, IsNetWalk};
 ghost use Rattle.track_graph.specs.Walks.{IsPath, path_parts, parts_shapes, walk_shapes_of};
@@ -44,21 +44,6 @@ fn half_width(tech: &Tech, level: u8) -> i64
     }
 }
 
-/// The rectangle made larger on each side.
-fn grown(rect: Rect, by: i64) -> Rect
-    requires rect { AreSidesWithin (2 ^ 61) rect }
-    requires low { pos 0 ≤ℤ by }
-    requires high { by ≤ℤ pos (2 ^ 61) }
-    ensures { result ≡ grown rect by }
-{
-    Rect {
-        xl: rect.xl - by,
-        yl: rect.yl - by,
-        xh: rect.xh + by,
-        yh: rect.yh + by,
-    }
-}
-
 /// The shape of a straight wire of a net between two points of a level.
 fn wire_shape(tech: &Tech, net: u32, level: u8, p: Point, q: Point) -> Shape
     requires tech { IsTech tech.now }
@@ -68,7 +53,7 @@ fn wire_shape(tech: &Tech, net: u32, level: u8, p: Point, q: Point) -> Shape
 {
     Shape {
         layer: layer_at(tech, level),
-        rect: grown(Rect::hull(p, q), half_width(tech, level)),
+        rect: Rect::hull(p, q).grown(half_width(tech, level)),
         owner: Owner::Net(net),
         fixed: false,
     }

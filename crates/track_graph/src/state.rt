@@ -1,6 +1,6 @@
 //! States: what stands of each net after the blocks of a journal.
 ghost use Rattle.std.specs.Prelude.{◌≡◌, ℕ, ◌<◌, ◌↔◌, ◌++◌, ◌∷◌, [], IsTrue, length, All, OnOk, OnErr, IfOk, IfSome};
-ghost use Rattle.track_graph.specs.Conditions.{IsBlockOf, IsStateOf};
+ghost use Rattle.track_graph.specs.Conditions.{IsBlockOf, IsJournalOf, IsStateOf};
 ghost use Rattle.track_graph.specs.Histories.{all_joined, IsFinished, IsHistory};
 ghost use Rattle.track_graph.specs.Entries.{pin_of};
 ghost use Rattle.track_graph.specs.Rules.{BreaksNoRule};
@@ -114,7 +114,7 @@ pub fn finished(design: &Design, state: &State) -> bool
 
 /// The state after a list of blocks. After the blocks of a history no wire breaks a rule of spacing.
 pub fn fold(alloc: Global, design: &Design, blocks: &[Block]) -> Result<State, Memory>
-    requires { All (IsBlockOf design.now) blocks.now }
+    requires { IsJournalOf design.now blocks.now }
     ensures after { IfOk result (λ s. s ≡ state_of design.now blocks.now) }
     ensures of_design { IfOk result (λ s. IsStateOf design.now s) }
     ensures rules { IfOk result (λ s. IsHistory design.now blocks.now → BreaksNoRule design.now s) }

@@ -1,7 +1,8 @@
 //! Strokes: a walk as straight runs and vias, as DEF writes wiring (DEF NETS, regular wiring).
 ghost use Rattle.std.specs.Prelude.{◌≡◌, ◌++◌, ◌<◌, length, OnOk, IfOk};
 ghost use Rattle.track_graph.specs.Designs.{IsDesign};
-ghost use Rattle.track_graph.specs.Entries.{nearest_point, rect_of};
+ghost use Rattle.rt_base.specs.Geometry.{nearest_point};
+ghost use Rattle.track_graph.specs.Entries.{rect_of};
 ghost use Rattle.track_graph.specs.NetWalks.{IsNetEntry, IsNetWalk};
 ghost use Rattle.track_graph.specs.Strokes.{run_between, stub_strokes, entry_strokes, is_up, is_same_direction, goes_on, path_strokes, walk_strokes};
 

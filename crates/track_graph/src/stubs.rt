@@ -1,20 +1,12 @@
 //! Stubs: from the nearest point of a pin's rectangle to a vertex.
-ghost use Rattle.std.specs.Prelude.{◌≡◌, ◌<◌, ◌≤ℤ◌, length};
+ghost use Rattle.std.specs.Prelude.{◌≡◌, ◌<◌, length};
 ghost use Rattle.track_graph.specs.Designs.{IsDesign};
-ghost use Rattle.track_graph.specs.Entries.{nearest, nearest_point, corner_of, rect_of, rects_of, entry_part};
+ghost use Rattle.track_graph.specs.Entries.{corner_of, rect_of, rects_of, entry_part};
+ghost use Rattle.rt_base.specs.Geometry.{nearest_point};
 ghost use Rattle.track_graph.specs.NetWalks.{IsNetEntry};
 
 use crate::design::Design;
-use crate::edges::units_between;
 use rt_base::{Entry, EntryKind, Point, Rect, Vertex};
-
-/// The number of a range that is nearest to z.
-fn nearest(lo: i64, hi: i64, z: i64) -> i64
-    requires { lo ≤ℤ hi }
-    ensures { result ≡ nearest lo hi z }
-{
-    z.clamp(lo, hi)
-}
 
 /// A rectangle of a pin of a net, by their numbers.
 fn pin_rect(design: &Design, net: u32, pin: u32, rect: u32) -> Rect
@@ -32,11 +24,7 @@ pub fn stub_point(design: &Design, net: u32, pin: u32, rect: u32, to: Point) -> 
     requires { rect < length (rects_of design.now net pin) }
     ensures { result ≡ nearest_point (rect_of design.now net pin rect) to }
 {
-    let rect = pin_rect(design, net, pin, rect);
-    Point {
-        x: nearest(rect.xl, rect.xh, to.x),
-        y: nearest(rect.yl, rect.yh, to.y),
-    }
+    pin_rect(design, net, pin, rect).nearest(to)
 }
 
 /// Where a stub from a point to a vertex turns.
@@ -59,7 +47,7 @@ pub fn entry_cost(design: &Design, net: u32, entry: &Entry) -> u64
         EntryKind::Pin { .. } => 0,
         EntryKind::Stub { pin, rect } => {
             let from = stub_point(design, net, pin, rect, entry.vertex.point);
-            4 * units_between(from, entry.vertex.point)
+            4 * from.distance(entry.vertex.point)
         }
         EntryKind::Wire => 0,
     }

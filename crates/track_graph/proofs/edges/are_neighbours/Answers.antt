@@ -2,8 +2,7 @@ use Rattle.std.proofs.Common.{ap, ◌≡◌, ◌+◌, ◌↔◌, to_z, of_z, w64
 use Rattle.std.specs.Int.{int_min, int_max}
 use Rattle.std.proofs.lemmas.Bool.{false≢true}
 use Rattle.std.proofs.lemmas.Int.{to_z-of_z}
-use Rattle.track_graph.specs.Edges.{NoneBetween}
-use Rattle.track_graph.specs.Levels.{lines_below, lines_of}
+use Rattle.track_graph.specs.Levels.{lines_below, lines_of, NoneBetween}
 use Rattle.track_graph.proofs.GraphLemmas.{lines_of-ascending, none_between_append, none_between_left, none_between_right}
 use Rattle.track_graph.proofs.edges.are_neighbours.Goals as goal
 

@@ -1,6 +1,7 @@
 use Rattle.std.proofs.Common.{◌≡◌, ◌++◌}
 use Rattle.std.proofs.lemmas.Result.{on_ok_weaker}
-use Rattle.track_graph.specs.Entries.{corner_of, nearest_point, rect_of}
+use Rattle.rt_base.specs.Geometry.{nearest_point}
+use Rattle.track_graph.specs.Entries.{corner_of, rect_of}
 use Rattle.track_graph.specs.Strokes.{run_between}
 use Rattle.track_graph.proofs.EntryLemmas.{stub_rect-exists}
 use Rattle.track_graph.proofs.PathLemmas.{joined}

@@ -1,5 +1,5 @@
 use Rattle.std.proofs.Common.{◌≤◌, ◌^◌, arith}
-use Rattle.track_graph.specs.Metal.{distance}
+use Rattle.rt_base.specs.Geometry.{distance}
 use Rattle.track_graph.proofs.EntryLemmas.{stub_distance, stub_rect-exists}
 use Rattle.track_graph.proofs.stubs.entry_cost.Goals as goal
 

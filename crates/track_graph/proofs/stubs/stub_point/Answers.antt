@@ -1,7 +1,8 @@
 use Rattle.std.proofs.Common.{◌≡◌, to_z, of_z, w64, ap, ◌∙◌, rules}
 use Rattle.std.proofs.lemmas.Int.{to_z-of_z}
 use Rattle.rt_base.specs.Sides.{Sides}
-use Rattle.track_graph.specs.Entries.{nearest, rect_of}
+use Rattle.rt_base.specs.Geometry.{nearest}
+use Rattle.track_graph.specs.Entries.{rect_of}
 use Rattle.track_graph.proofs.stubs.stub_point.Goals as goal
 
 pub returns : goal.returns
