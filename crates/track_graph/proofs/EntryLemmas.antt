@@ -1,5 +1,5 @@
 -- Entries of a design: their pins, their rectangles and their vertices.
-use Rattle.std.proofs.Common.{◌≡◌, ℕ, ◌^◌, ◌<◌, ◌≤◌, List, [], length, get_or, Option, Some, None, option_map, unwrap_or, slice_get, All, Contains, ⊎_elim, refl, sym, subst, ◌∙◌, arith}
+use Rattle.std.proofs.Common.{◌≡◌, ℕ, ◌^◌, ◌+◌, ◌⊎◌, inl, inr, ◌<◌, ◌≤◌, List, [], length, get_or, Option, Some, None, option_map, unwrap_or, slice_get, All, Contains, ⊎_elim, refl, sym, subst, ◌∙◌, arith}
 use Rattle.rt_base.proofs.Lists.{All-at}
 use Rattle.std.proofs.lemmas.Option.{slice_get_within, slice_get-get_or}
 use Rattle.rt_base.specs.Sides.{Sides}
@@ -13,6 +13,11 @@ use Rattle.track_graph.specs.declared.design.Net.{Net}
 use Rattle.track_graph.specs.declared.design.Pin.{Pin}
 use Rattle.track_graph.specs.Designs.{IsMetal, IsPin, IsNet, IsDesign}
 use Rattle.rt_base.specs.Ranges.{IsPointWithin, AreSidesWithin}
+use Rattle.rt_base.specs.declared.walk.Edge.{Edge}
+use Rattle.rt_base.specs.declared.walk.EdgeKind.{EdgeKind}
+use Rattle.rt_base.specs.declared.walk.EdgeKind.TheVariants.{Via as ByVia}
+use Rattle.rt_base.specs.declared.walk.Vertex.{Vertex}
+use Rattle.track_graph.specs.Edges.{FitsKind, IsEdge, Joins}
 use Rattle.track_graph.specs.Entries.{IsEntry, IsPinEntry, IsStubEntry, pins_of, entries_of, rects_of, rect_of, no_metal}
 use Rattle.track_graph.specs.Levels.{TrackSystem, track_system_of, IsVertex}
 use Rattle.track_graph.specs.Metal.{Metal}
@@ -58,6 +63,14 @@ entry_vertex d n e ok h = ⊎_elim
     (λ (of_pin : (pin : ℕ) × Contains (entries_of d n pin) e). (pin_entry-fits d n of_pin.0 e ok of_pin.1).vertex)
     (λ (on_wire : (e.kind ≡ OnWire) × IsVertex (track_system_of d) e.vertex). on_wire.1)
     h
+
+-- the via of an edge is one of the technology's
+pub edge_via-exists : (g : TrackSystem) (v : Vertex) (e : Edge) (k : ℕ) → IsEdge g v e → e.kind ≡ ByVia k → k < length g.tech.vias
+edge_via-exists g v e k h is = by_levels (subst (λ (kind : EdgeKind). FitsKind g kind v e.to) is h.kind).levels
+  where
+    by_levels : ((e.to.level ≡ v.level + 1) × Joins g.tech k v.level) ⊎ ((v.level ≡ e.to.level + 1) × Joins g.tech k e.to.level) → k < length g.tech.vias
+    by_levels (inl up) = slice_get_within g.tech.vias k up.1.via up.1.is_via
+    by_levels (inr down) = slice_get_within g.tech.vias k down.1.via down.1.is_via
 
 -- the rectangle of a stub is one of its pin's
 pub stub_rect-exists : (d : Design) (n : ℕ) (e : Entry) (pin k : ℕ) → IsDesign d → IsNetEntry d n e → e.kind ≡ Stub pin k → k < length (rects_of d n pin)

@@ -27,16 +27,11 @@ use Rattle.track_graph.specs.Metal.{Metal, shapes_of}
 use Rattle.track_graph.specs.Walks.{walk_shapes_of, walk_parts, parts_shapes}
 use Rattle.track_graph.specs.Rules.{BreaksNoRule}
 use Rattle.track_graph.specs.States.{net_state, net_shapes, standing_from, with_mark, with_net, with_walk, join_pin, after, emptied, emptied_net, first_state, fresh, state_of, every_net, standing}
-use Rattle.track_graph.specs.Searches.{IsLegal}
+use Rattle.track_graph.specs.Searches.{Reading, IsLegal}
 use Rattle.track_graph.specs.Histories.{IsRoutable, IsRight, IsHistory, IsHistoryFrom}
+use Rattle.rt_base.proofs.Lists.{in_cons, none_in}
+use Rattle.track_graph.proofs.Agreement.{emptied-reading}
 use Rattle.track_graph.proofs.StateLemmas.{blank, length-emptied}
-
-in_cons : {X : Type 0} (a : X) (xs : List X) (b : X) → Contains (a ∷ xs) b → (b ≡ a) ⊎ Contains xs b
-in_cons a xs b (zero, h, e) = inl (sym e)
-in_cons a xs b (suc k, h, e) = inr (k, omega arith, e)
-
-none_in : {X : Type 0} (b : X) → Contains [] b → ⊥
-none_in b h = omega (arith, h.1)
 
 either_false : (a b : Bool) → (a || b) ≡ false → (a ≡ false) × (b ≡ false)
 either_false true b h = cc
@@ -133,7 +128,7 @@ and_same : (p q n m : Bool) → (p ≡ true → n ≡ m) → (p && q && n) ≡ (
 and_same true q n m h = ap (λ (z : Bool). q && z) (h refl)
 and_same false q n m h = refl
 
-conflict_flip : (tech : Tech) (a b : Shape) → conflict_of tech a b ≡ conflict_of tech b a
+pub conflict_flip : (tech : Tech) (a b : Shape) → conflict_of tech a b ≡ conflict_of tech b a
 conflict_flip tech a b =
     let gx : gap_x a.rect b.rect ≡ gap_x b.rect a.rect = max_flip _ _ in
     let gy : gap_y a.rect b.rect ≡ gap_y b.rect a.rect = max_flip _ _ in
@@ -147,8 +142,8 @@ conflict_flip tech a b =
     ∙ ap (λ (z : Bool). (b.layer.0 == a.layer.0) && not z && is_near_of (gap_x b.rect a.rect) (gap_y b.rect a.rect) (spacing_of tech b.layer)) o
 
 -- a legal walk breaks no rule
-walk_breaks_no_rule : (d : Design) (s : State) (n : ℕ) (w : Walk) (old : NetState) → slice_get s.nets n ≡ Some old → BreaksNoRule d s → IsLegal d s (hard_reading d s) n w → BreaksNoRule d (with_walk s n w)
-walk_breaks_no_rule d s n w old at before legal a b ca cb =
+walk_breaks_no_rule : (d : Design) (s : State) (n : ℕ) (own : NetState) (w : Walk) (old : NetState) → slice_get s.nets n ≡ Some old → BreaksNoRule d s → IsLegal d n own (hard_reading d s) w → BreaksNoRule d (with_walk s n w)
+walk_breaks_no_rule d s n own w old at before legal a b ca cb =
     let clear : (x y : Shape) → Contains (walk_shapes_of d n w) x → Contains (d.fixed ++ standing d s) y → conflict_of d.tech x y ≡ false =
     (λ x y cx cy. any_false (conflict_of d.tech x) (d.fixed ++ standing d s) y (any_false (λ z. list_any (conflict_of d.tech z) (d.fixed ++ standing d s)) (walk_shapes_of d n w) x legal.clear cx) cy) in
     let cases_b : Contains (d.fixed ++ standing d s) b ⊎ Contains (walk_shapes_of d n w) b = ⊎_elim
@@ -207,12 +202,13 @@ mark-standing d s n at a c = ⊎_elim
 
 -- a right block breaks no rule
 after_breaks_no_rule : (d : Design) (s : State) (b : Block) → HasEachNet d s → IsRight d s b → BreaksNoRule d s → BreaksNoRule d (after s b)
-after_breaks_no_rule d s (Wire n w) each h before = walk_breaks_no_rule d s n w (net_state s n) (stands d s n each h.waiting.routable) before h.walk.legal
+after_breaks_no_rule d s (Wire n w) each h before = walk_breaks_no_rule d s n (net_state s n) w (net_state s n) (stands d s n each h.waiting.routable) before h.walk.legal
 after_breaks_no_rule d s (Stuck n) each h before = fewer_break_no_rule d s (with_mark s n) (mark-standing d s n (stands d s n each h.waiting.routable)) before
 after_breaks_no_rule d s (RipFor n soft ripped w) each h before =
-    walk_breaks_no_rule d (emptied s ripped) n w (net_state (emptied s ripped) n)
+    walk_breaks_no_rule d (emptied s ripped) n (net_state s n) w (net_state (emptied s ripped) n)
     (stands d (emptied s ripped) n (length-emptied s ripped ∙ each) h.waiting.routable)
-    (fewer_break_no_rule d s (emptied s ripped) (emptied-standing d s ripped) before) h.walk.legal
+    (fewer_break_no_rule d s (emptied s ripped) (emptied-standing d s ripped) before)
+    (subst (λ (r : Reading). IsLegal d n (net_state s n) r w) (sym (emptied-reading d s ripped)) h.walk.legal)
 
 after-each : (d : Design) (s : State) (b : Block) → HasEachNet d s → HasEachNet d (after s b)
 after-each d s (Wire n w) each = length-set s.nets n _ ∙ each

@@ -4,7 +4,7 @@ ghost use Rattle.track_graph.specs.Designs.{IsTech, IsUsable, IsUsableAt};
 ghost use Rattle.track_graph.specs.Levels.{layer_no};
 ghost use Rattle.track_graph.specs.Metal.{Metal, JoinsLevels};
 
-use crate::levels::level_layer;
+use crate::levels::{layer_number, level_layer};
 use rt_base::{LayerNo, Rect, Tech};
 
 /// The number of a level's layer among all layers, 0 where there is no such level.
@@ -51,7 +51,7 @@ pub fn joins_levels(tech: &Tech, rects: &[(LayerNo, Rect)], lower: u8) -> bool
     if lower >= 16 {
         return false;
     }
-    if level_layer(tech, lower + 1).is_none() {
+    if layer_number(tech, lower + 1).is_none() {
         return false;
     }
     if !stand_on(rects, layer_no(tech, lower)) {

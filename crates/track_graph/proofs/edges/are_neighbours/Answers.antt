@@ -3,8 +3,11 @@ use Rattle.std.specs.Int.{int_min, int_max}
 use Rattle.std.proofs.lemmas.Bool.{false≢true}
 use Rattle.std.proofs.lemmas.Int.{to_z-of_z}
 use Rattle.track_graph.specs.Levels.{lines_below, lines_of, NoneBetween}
-use Rattle.track_graph.proofs.GraphLemmas.{lines_of-ascending, none_between_append, none_between_left, none_between_right}
+use Rattle.track_graph.proofs.GraphLemmas.{lines_of-ascending, lines_below-ascending, none_between_append, none_between_left, none_between_right}
 use Rattle.track_graph.proofs.edges.are_neighbours.Goals as goal
+
+pub is_gap-requires : goal.is_gap-requires
+is_gap-requires c = rw c.lines_under.ensures (lines_below-ascending _ _ c.args.level c.requires.tracks)
 
 pub is_gap-requires-2 : goal.is_gap-requires-2
 is_gap-requires-2 c = rw c.level_lines.ensures (lines_of-ascending _ _ (c.args.level + 1) c.requires.tracks)
