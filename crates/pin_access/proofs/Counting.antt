@@ -52,7 +52,7 @@ counts_image {X} {Y} f P n apart c = record {
     λ h. let image : (x : X) × Contains c.those x × (f x ≡ y) = from_image f c.those y h in (image.0, (c.exactly image.0).0 image.1, image.2),
     λ h. subst (λ z. Contains (map f c.those) z) h.2 (contains_image f c.those h.0 ((c.exactly h.0).1 h.1)),
   );
-  count = length-map f c.those ∙ c.count;
+  count = length-map c.those f ∙ c.count;
 }
 
 -- a list that has a thing is two lists with the thing between them

@@ -1,4 +1,3 @@
-pub mod LineLemmas
 pub mod Members
 pub mod NearLemmas
 pub mod OrderLemmas

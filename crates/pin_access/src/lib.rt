@@ -2,7 +2,6 @@
 #![tactic(auto)]
 
 mod area;
-mod lines;
 mod listing;
 
 pub use listing::entries;
