@@ -72,7 +72,7 @@ parted {X} (y ∷ ys) x h = ⊎_elim
     (contains_cases y ys x h)
 
 -- different things that a list has are at most as many as the list is long
-within_length : {X : Type 0} → (xs ys : List X) → Differ xs → ((x : X) → Contains xs x → Contains ys x) → length xs ≤ length ys
+pub within_length : {X : Type 0} → (xs ys : List X) → Differ xs → ((x : X) → Contains xs x → Contains ys x) → length xs ≤ length ys
 within_length [] ys once into = omega arith
 within_length {X} (x ∷ xs) ys once into =
     let p : Parted ys x = parted ys x (into x (contains_here x xs)) in

@@ -2,6 +2,7 @@
 #![tactic(auto)]
 
 mod area;
+mod bands;
 mod listing;
 
 pub use listing::entries;
