@@ -1,8 +1,7 @@
 //! How many positions of lines are near rectangles.
 ghost use Rattle.std.specs.Prelude.{◌≡◌, ◌-◌, ℤ, ◌↔◌, ◌*◌, ◌^◌, ◌≤◌, ◌<ℤ◌, ◌≤ℤ◌, length, All, AllPairs, Any, Contains, IfOk, MatchOption};
-ghost use Rattle.rt_base.specs.Ranges.{AreSidesWithin};
 ghost use Rattle.rt_base.specs.declared.geometry.Span.{Span as OfSpan};
-ghost use Rattle.pin_access.specs.Bands.{IsIn, IsSpan, IsBand, IsNearBand, IsNearBands, band_of, beyond as beyond_of};
+ghost use Rattle.pin_access.specs.Bands.{IsIn, IsBand, IsNearBand, IsNearBands, band_of, beyond as beyond_of};
 ghost use Rattle.pin_access.specs.Counts.{Counts};
 ghost use Rattle.track_graph.specs.Levels.{IsAscending};
 
@@ -17,11 +16,11 @@ pub struct Band {
     pub along: Span,
 }
 
-/// A rectangle as tracks see it that run in x or in y.
-pub fn seen_along(horizontal: bool, rect: &Rect) -> Band
-    requires { AreSidesWithin (2 ^ 61) rect.now }
+/// The ranges of a rectangle across tracks that run in x or in y, and along them.
+pub fn ranges_of(horizontal: bool, rect: &Rect) -> Band
     ensures value { result ≡ band_of horizontal rect.now }
-    ensures band { IsBand result }
+    ensures wide { rect.now.xl ≤ℤ rect.now.xh }
+    ensures tall { rect.now.yl ≤ℤ rect.now.yh }
 {
     let in_x = Span {
         lo: rect.xl,

@@ -3,6 +3,7 @@
 
 mod area;
 mod bands;
+mod die_tracks;
 mod listing;
 
 pub use listing::entries;
