@@ -16,7 +16,7 @@ use Rattle.track_graph.specs.declared.history.State.{State}
 use Rattle.track_graph.specs.Designs.{IsDesign}
 use Rattle.track_graph.specs.Entries.{pins_of}
 use Rattle.track_graph.specs.Levels.{TrackSystem, track_system_of, IsVertex}
-use Rattle.track_graph.specs.NetWalks.{IsNetWalk}
+use Rattle.track_graph.specs.NetWalks.{IsNetWalk, IsWalkOf}
 use Rattle.track_graph.specs.Searches.{IsStart, IsFinish}
 use Rattle.track_graph.specs.States.{net_state}
 use Rattle.track_graph.specs.Walks.{IsPath, vertices_of}
