@@ -17,8 +17,8 @@ use Rattle.track_graph.specs.Searches.{guide_of}
 use Rattle.regions.specs.declared.cover.Line.{Line}
 use Rattle.regions.specs.Spans.{InSpan, InSpans, AreFull}
 use Rattle.regions.specs.Covered.{point_at, line_on, InBox, IsPart, IsCovered}
-use Rattle.regions.proofs.Bounds.{all_read}
-use Rattle.regions.proofs.Lists.{any_push, any_more, Any-none}
+use Rattle.regions.proofs.Lists.{any_push, any_more}
+use Rattle.rt_base.proofs.Lists.{All-at, Any-none}
 use Rattle.regions.proofs.SpanLemmas.{ends_in}
 
 -- the boxes' parts of a line, as spans
@@ -86,7 +86,7 @@ guide_sides d n ok = by_net (slice_get d.nets n) refl
   where
     by_net : (o : Option Net) → slice_get d.nets n ≡ o → All (λ (box : ℕ × Sides). AreSidesWithin (2 ^ 32) box.1) (unwrap_or (option_map (λ (net : Net). net.guide) o) [])
     by_net None is = λ k d lt. absurd (omega (arith, lt))
-    by_net (Some net) is = (all_read (IsNet (track_system_of d)) d.nets n net ok.nets is).guide
+    by_net (Some net) is = (All-at (IsNet (track_system_of d)) d.nets n net ok.nets is).guide
 
 -- the parts, said of the design
 pub covered_same : (d : Design) (net level : ℕ) (line : ℤ) (in_x : Bool) (at : ℤ) (boxes : List (ℕ × Sides)) (spans : List Span) → boxes ≡ guide_of d net → in_x ≡ is_horizontal d.tech level → at ≡ line → ((z : ℤ) → InSpans spans z ↔ InGuide boxes level (point_at (record { in_x = in_x; at = at }) z)) → (z : ℤ) → InSpans spans z ↔ IsCovered d net level line z

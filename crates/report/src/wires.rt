@@ -1,14 +1,15 @@
 //! How long the standing wires are, and how many vias they have.
 ghost use Rattle.std.specs.Prelude.{◌≡◌, ◌+◌, IfOk, sum_by};
 ghost use Rattle.std.specs.List.{enumerate_from};
-ghost use Rattle.track_graph.specs.Entries.{nearest, nearest_point, rect_of};
-ghost use Rattle.track_graph.specs.Metal.{distance};
+ghost use Rattle.rt_base.specs.Geometry.{distance};
+ghost use Rattle.track_graph.specs.Entries.{rect_of};
 ghost use Rattle.report.specs.Lines.{kind_wire, edge_wire, path_wire, walk_wire, walk_vias, net_wire, net_vias, is_via};
 
 use crate::counts::sum;
 use rt_base::{Edge, EdgeKind, Entry, EntryKind, Memory, Point, Rect, Vertex, Walk};
 use track_graph::{Design, NetState};
 
+/// The distance in x plus the distance in y, or want of memory where it doesn't fit.
 fn units_between(p: Point, q: Point) -> Result<u64, Memory>
     ensures { IfOk result (λ n. n ≡ distance p q) }
 {
@@ -37,23 +38,6 @@ fn pin_rect(design: &Design, net: usize, pin: u32, rect: u32) -> Rect
     }
 }
 
-/// The number of a range that is nearest to z.
-fn nearest(lo: i64, hi: i64, z: i64) -> i64
-    ensures { result ≡ nearest lo hi z }
-{
-    lo.max(hi.min(z))
-}
-
-/// The point of a rectangle that is nearest to p.
-fn nearest_point(rect: Rect, p: Point) -> Point
-    ensures { result ≡ nearest_point rect p }
-{
-    Point {
-        x: nearest(rect.xl, rect.xh, p.x),
-        y: nearest(rect.yl, rect.yh, p.y),
-    }
-}
-
 /// The length of an entry's stub.
 fn entry_wire(design: &Design, net: usize, entry: &Entry) -> Result<u64, Memory>
     ensures { IfOk result (λ n. n ≡ kind_wire design.now net entry.now.kind entry.now.vertex) }
@@ -62,7 +46,7 @@ fn entry_wire(design: &Design, net: usize, entry: &Entry) -> Result<u64, Memory>
         EntryKind::Pin { .. } => Ok(0),
         EntryKind::Stub { pin, rect } => {
             let to = entry.vertex.point;
-            units_between(nearest_point(pin_rect(design, net, pin, rect), to), to)
+            units_between(pin_rect(design, net, pin, rect).nearest(to), to)
         }
         EntryKind::Wire => Ok(0),
     }

@@ -8,16 +8,16 @@ use Rattle.regions.proofs.tiles.tiles_of.Goals as goal
 
 pub maximal_spans-requires-clause-small : goal.maximal_spans-requires-clause-small
 maximal_spans-requires-clause-small c k d lt =
-    let h = ends_small c.args.design.now.grid (pos c.halo.result) c.guide_of-boxes.result.now c.in_ok-runs.runs.items c.requires.count c.in_ok-runs.ensures.full (λ z j. (c.in_ok-runs.ensures.exact z).0 j) k d lt in
+    let h = ends_small c.args.design.now.grid (pos c.halo.result) c.guide_of-boxes.result.now c.in_ok-runs.runs.items c.requires.grid.tile_count c.in_ok-runs.ensures.full (λ z j. (c.in_ok-runs.ensures.exact z).0 j) k d lt in
     omega (arith, ints, h.1.1)
 
 pub numbers-requires-clause-low : goal.numbers-requires-clause-low
 numbers-requires-clause-low c k d lt =
-    (slice_small c.args.design.now.grid (pos c.halo.result) c.guide_of-boxes.result.now c.in_ok-runs.runs.items c.in_ok-runs-2.runs.items c.as_slice.result.now c.requires.count c.as_slice.ensures.value c.in_ok-runs.ensures.exact c.in_ok-runs-2.ensures k d lt).0.0
+    (slice_small c.args.design.now.grid (pos c.halo.result) c.guide_of-boxes.result.now c.in_ok-runs.runs.items c.in_ok-runs-2.runs.items c.as_slice.result.now c.requires.grid.tile_count c.as_slice.ensures.value c.in_ok-runs.ensures.exact c.in_ok-runs-2.ensures k d lt).0.0
 
 pub numbers-requires-clause-high : goal.numbers-requires-clause-high
 numbers-requires-clause-high c k d lt =
-    (slice_small c.args.design.now.grid (pos c.halo.result) c.guide_of-boxes.result.now c.in_ok-runs.runs.items c.in_ok-runs-2.runs.items c.as_slice.result.now c.requires.count c.as_slice.ensures.value c.in_ok-runs.ensures.exact c.in_ok-runs-2.ensures k d lt).1.1
+    (slice_small c.args.design.now.grid (pos c.halo.result) c.guide_of-boxes.result.now c.in_ok-runs.runs.items c.in_ok-runs-2.runs.items c.as_slice.result.now c.requires.grid.tile_count c.as_slice.ensures.value c.in_ok-runs.ensures.exact c.in_ok-runs-2.ensures k d lt).1.1
 
 pub returns-clause-exact : goal.returns-clause-exact
 returns-clause-exact c =
