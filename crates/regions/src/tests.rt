@@ -1,9 +1,8 @@
 //! Worked rows, on a chip of two levels with a die of 20 by 20 tiles, each with a side of 1000 units.
-ghost use Rattle.std.specs.Prelude.{◌≡◌, ◌≢◌, [], ◌∷◌, pos, ◌^◌, length, All, AllPairs, IfOk};
-ghost use Rattle.rt_base.specs.Names.{IsName};
+ghost use Rattle.std.specs.Prelude.{◌≡◌, [], true, pos, ◌^◌, All, IfOk};
 ghost use Rattle.rt_base.specs.Ranges.{AreSidesWithin};
-ghost use Rattle.track_graph.specs.Designs.{IsTech, IsNet, IsDesign, Alternate};
-ghost use Rattle.track_graph.specs.Levels.{TrackSystem, levels};
+ghost use Rattle.track_graph.specs.Designs.{IsNet, IsDesign};
+ghost use Rattle.track_graph.specs.Levels.{TrackSystem};
 
 use crate::{covered, halo, tiles_of};
 use rt_base::{Grid, Layer, Memory, Name, Point, Rect, Seq, Span, SpacingTable, Tech};
@@ -16,12 +15,7 @@ type Corners = (u8, [u32; 4]);
 
 /// A routing layer, with wires of 100 units that keep 100 units apart.
 fn layer(alloc: Global, name: &[u8], horizontal: bool) -> Result<Layer, Memory>
-    ensures name { IfOk result (λ l. l.name ≡ name.now) }
-    ensures routing { IfOk result (λ l. l.routing ≡ true) }
-    ensures direction { IfOk result (λ l. l.horizontal ≡ horizontal) }
-    ensures width { IfOk result (λ l. l.width ≡ pos 100) }
-    ensures spacing { IfOk result (λ l. l.spacing ≡ pos 100) }
-    ensures table { IfOk result (λ l. l.table ≡ record { lengths = []; rows = [] }) }
+    ensures { IfOk result (λ l. l ≡ record { name = name.now; routing = true; horizontal = horizontal; width = pos 100; spacing = pos 100; table = record { lengths = []; rows = [] } }) }
 {
     Ok(Layer {
         name: Name::new(alloc, name)?,
@@ -33,33 +27,6 @@ fn layer(alloc: Global, name: &[u8], horizontal: bool) -> Result<Layer, Memory>
             lengths: Seq::new(alloc),
             rows: Seq::new(alloc),
         },
-    })
-}
-
-/// M1, whose tracks run in x, and M2, whose tracks run in y.
-fn tech(alloc: Global) -> Result<Tech, Memory>
-    ensures tech { IfOk result IsTech }
-    ensures alternate { IfOk result Alternate }
-    ensures levels { IfOk result (λ t. length (levels t) ≡ 2) }
-    ensures names { IfOk result (λ t. All (λ l. IsName l.name) t.layers) }
-    ensures differ { IfOk result (λ t. AllPairs (λ a b. a.name ≢ b.name) t.layers) }
-    ensures no_vias { IfOk result (λ t. t.vias ≡ []) }
-{
-    let lower = layer(alloc, b"M1", true)?;
-    let upper = layer(alloc, b"M2", false)?;
-    Ok(Tech {
-        layers: Seq::from_vec(vec![in alloc; lower, upper]?),
-        vias: Seq::new(alloc),
-    })
-}
-
-/// No lines, and the step of 200 units on both levels.
-fn tracks(alloc: Global) -> Result<Tracks, Memory>
-    ensures { IfOk result (λ t. t ≡ record { lines = [] ∷ [] ∷ []; largest_step = pos 200 ∷ pos 200 ∷ [] }) }
-{
-    Ok(Tracks {
-        lines: Seq::from_vec(vec![in alloc; Seq::new(alloc), Seq::new(alloc)]?),
-        largest_step: Seq::from_vec(vec![in alloc; 200, 200]?),
     })
 }
 
@@ -103,12 +70,13 @@ fn net(alloc: Global, name: &[u8], boxes: &[Corners]) -> Result<Net, Memory>
     })
 }
 
-/// The chip with the nets a and b, which have these guides.
+/// The chip with the nets a and b, which have these guides. The tracks of M1 run in x and those of M2
+/// in y, with a step of 200 units.
 fn chip(alloc: Global, first: &[Corners], second: &[Corners]) -> Result<Design, Memory>
     ensures { IfOk result IsDesign }
 {
-    let tech = tech(alloc)?;
-    let tracks = tracks(alloc)?;
+    let lower = layer(alloc, b"M1", true)?;
+    let upper = layer(alloc, b"M2", false)?;
     let a = net(alloc, b"a", first)?;
     let b = net(alloc, b"b", second)?;
     let die = Rect {
@@ -118,8 +86,14 @@ fn chip(alloc: Global, first: &[Corners], second: &[Corners]) -> Result<Design, 
         yh: 20_000,
     };
     Ok(Design {
-        tech,
-        tracks,
+        tech: Tech {
+            layers: Seq::from_vec(vec![in alloc; lower, upper]?),
+            vias: Seq::new(alloc),
+        },
+        tracks: Tracks {
+            lines: Seq::from_vec(vec![in alloc; Seq::new(alloc), Seq::new(alloc)]?),
+            largest_step: Seq::from_vec(vec![in alloc; 200, 200]?),
+        },
         grid: Grid { die, tile: 1000 },
         nets: Seq::from_vec(vec![in alloc; a, b]?),
         fixed: Seq::new(alloc),

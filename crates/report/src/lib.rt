@@ -21,7 +21,7 @@ use track_graph::{Block, Design, Journal, State, fold};
 /// `skipped-in NAME n` for each count above 0, a line `no-path NET` for each routable net with a pin
 /// that isn't joined, and a line `unguided-net NET` for each net without a guide, in file order.
 /// Lengths are in DEF database units. The only error is want of memory, which is also the answer
-/// where a total doesn't fit 64 bits.
+/// where a total of lengths or of vias doesn't fit 128 bits.
 pub fn report(alloc: Global, design: &Design, journal: &Journal) -> Result<Vec<u8>, Memory>
     requires { IsJournalOf design.now journal.now.blocks }
     ensures { IfOk result (λ text. text.items ≡ report_text design.now journal.now.blocks) }
