@@ -3,6 +3,7 @@ use Rattle.std.proofs.Common.{◌≡◌, ◌≢◌, ◌∙◌, ℕ, zero, suc, �
 use Rattle.std.specs.Prelude.{codes}
 use Rattle.std.proofs.lemmas.Int.{ints}
 use Rattle.std.proofs.lemmas.List.Elements.{All-nil, All-cons}
+use Rattle.std.proofs.lemmas.Option.{slice_get_within}
 use Rattle.rt_base.specs.Names.{IsName}
 use Rattle.rt_base.specs.Ranges.{AreSidesWithin, IsWidth, IsWithin}
 use Rattle.rt_base.specs.Sides.{Sides}
@@ -97,12 +98,9 @@ are_tracks = record {
 pub is_net : (g : TrackSystem) (net : Net) → net.pins ≡ [] → All (λ (box : ℕ × Sides). AreSidesWithin (2 ^ 32) box.1) net.guide → IsNet g net
 is_net g net none guide = record {
   pin_count = rw none (lit< tt);
-  pins = λ k pin at. absurd (no_pin (slice_get net.pins k ≡ Some pin) at none);
+  pins = λ k pin at. absurd (omega (arith, slice_get_within net.pins k pin at, ap (λ (pins : List Pin). length pins) none));
   guide = guide;
 }
-  where
-    no_pin : {k : ℕ} {pin : Pin} (P : Type 0) → slice_get net.pins k ≡ Some pin → net.pins ≡ [] → ⊥
-    no_pin {k} {pin} P at none = let e = rw none at at in cc
 
 -- ---- the chip
 

@@ -4,7 +4,15 @@ use Rattle.std.proofs.lemmas.Result.{IfOk-weaker}
 use Rattle.regions.specs.Spans.{InSpans}
 use Rattle.regions.specs.Tiles.{IsTileOf}
 use Rattle.regions.proofs.TileLemmas.{ends_small, slice_small, tiles_same}
+use Rattle.regions.proofs.Bounds.{halo_most}
+use Rattle.regions.proofs.CoverLemmas.{guide_sides_wide}
 use Rattle.regions.proofs.tiles.tiles_of.Goals as goal
+
+pub met-requires-clause-boxes : goal.met-requires-clause-boxes
+met-requires-clause-boxes c = guide_sides_wide c.args.design.now c.args.net c.guide_of-boxes.result.now c.requires c.guide_of-boxes.ensures
+
+pub met-requires-clause-halo : goal.met-requires-clause-halo
+met-requires-clause-halo c = halo_most c.args.design.now c.halo.result c.requires c.halo.ensures
 
 pub maximal_spans-requires-clause-small : goal.maximal_spans-requires-clause-small
 maximal_spans-requires-clause-small c k d lt =
