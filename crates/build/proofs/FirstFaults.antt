@@ -1,5 +1,5 @@
 -- The first fault of a list, item by item.
-use Rattle.std.proofs.Common.{◌≡◌, ◌≢◌, ℕ, ◌+◌, ◌<◌, ◌≤◌, All, inl, inr, List, [], ◌∷◌, ◌++◌, length, get_or, take, drop, Option, Some, None, Result, IsErrAnd, refl, sym, ap, subst, ◌∙◌, arith}
+use Rattle.std.proofs.Common.{unwrap_or, min, ◌^◌, ◌-◌, ◌≡◌, ◌≢◌, ℕ, ◌+◌, ◌<◌, ◌≤◌, All, inl, inr, List, [], ◌∷◌, ◌++◌, length, get_or, take, drop, Option, Some, None, Result, IsErrAnd, refl, sym, ap, subst, ◌∙◌, arith}
 use Rattle.std.specs.Option.{option_or}
 use Rattle.std.proofs.lemmas.Result.{err_from_is_err_and}
 use Rattle.std.proofs.lemmas.List.{take_more, drop_more, take-append-drop}
@@ -13,9 +13,10 @@ use Rattle.build.specs.declared.error.BuildError.TheVariants.{Memory as OutOfMem
 use Rattle.build.specs.declared.error.Limited.{Limited}
 use Rattle.build.specs.declared.error.Limited.TheVariants.{RoutingLayers, Tracks, FixedShapes, Coordinate}
 use Rattle.build.specs.Built.{fixed_of}
-use Rattle.build.specs.Faults.{first_of, first_by, limit_fault, largest_coordinate, name_faults, name_fault, count_faults, count_fault}
+use Rattle.build.specs.Faults.{first_of, first_by, lines_said, limit_fault, largest_coordinate, level_fault, guide_fault, vias_part, unit_fault, placed_fault, wired_fault, level_and_guide_fault, name_fault, count_faults, count_fault}
 use Rattle.build.specs.Findings.{Finds}
 use Rattle.build.specs.Inputs.{Input}
+use Rattle.build.specs.LookUps.{layer_names_of, net_names}
 use Rattle.build.specs.TrackLines.{line_count, routing_layers}
 use Rattle.build.specs.Indexes.{Tells}
 
@@ -115,7 +116,20 @@ all_none (f ∷ fs) n = fault_later f (first_of fs) None n.0 (all_none fs n.1)
 
 -- what the fault of names rules out: too many levels
 pub few_levels : (i : Input) → name_fault i ≡ None → length (routing_layers i.lef.layers) ≤ 16
-few_levels i h = limit_none RoutingLayers (length (routing_layers i.lef.layers)) 16 (none_all (name_faults i) h).1.1.1.1.1.1.1.1.1.1.0
+unfolding name_fault
+few_levels i h =
+    let n = none_all (unit_fault i ∷ vias_part i ∷ placed_fault i ∷ wired_fault i ∷ level_and_guide_fault i ∷ []) h in
+    levels_within i n.1.1.1.1.0
+  where
+    levels_within : (i : Input) → level_and_guide_fault i ≡ None → length (routing_layers i.lef.layers) ≤ 16
+    unfolding level_and_guide_fault
+    levels_within i h =
+        let n = none_all (
+          first_by (level_fault i.def.tracks) (routing_layers i.lef.layers)
+          ∷ first_by (guide_fault (layer_names_of i.lef) (net_names i.def.nets)) (unwrap_or i.guides [])
+          ∷ limit_fault RoutingLayers (length (routing_layers i.lef.layers)) 16
+          ∷ []) h in
+        limit_none RoutingLayers (length (routing_layers i.lef.layers)) 16 n.1.1.0
 
 -- what the fault of counts rules out: too many lines of a level, too many shapes, and shapes too far off
 pub record Counted (i : Input) : Type 0 where
@@ -123,11 +137,14 @@ pub record Counted (i : Input) : Type 0 where
   pub shapes : length (fixed_of i) ≤ 4194304
   pub near : largest_coordinate (fixed_of i) ≤ 1073741824
 
+few_lines : (n : ℕ) → min n (2 ^ 128 - 1) ≤ 65536 → n ≤ 65536
+few_lines n h = omega arith
+
 pub counted : (i : Input) (tech : Tech) → count_fault i tech ≡ None → Counted i
 counted i tech h =
     let n = none_all (count_faults i tech) h in
     record {
-      lines = All-weaker (λ (l : Layer). limit_fault Tracks (line_count l i.def.tracks) 65536 ≡ None) (λ (l : Layer). line_count l i.def.tracks ≤ 65536) (λ l e. limit_none Tracks (line_count l i.def.tracks) 65536 e) (routing_layers i.lef.layers) (none_each (λ (l : Layer). limit_fault Tracks (line_count l i.def.tracks) 65536) (routing_layers i.lef.layers) n.1.0);
+      lines = All-weaker (λ (l : Layer). limit_fault Tracks (lines_said l i.def.tracks) 65536 ≡ None) (λ (l : Layer). line_count l i.def.tracks ≤ 65536) (λ l e. few_lines (line_count l i.def.tracks) (limit_none Tracks (lines_said l i.def.tracks) 65536 e)) (routing_layers i.lef.layers) (none_each (λ (l : Layer). limit_fault Tracks (lines_said l i.def.tracks) 65536) (routing_layers i.lef.layers) n.1.0);
       shapes = limit_none FixedShapes (length (fixed_of i)) 4194304 n.1.1.1.0;
       near = limit_none Coordinate (largest_coordinate (fixed_of i)) 1073741824 n.1.1.1.1.0;
     }

@@ -1,5 +1,5 @@
 -- What keeps a design from being built, one fault after the other: units, names, tracks and counts.
-use Rattle.std.specs.Prelude.{ℕ, ◌+◌, ◌*◌, ◌-◌, ◌%◌, ◌==◌, List, [], ◌∷◌, Bool, not, if◌then◌else◌, nat_lt, length, fold, sum_by, count_by, max, unsigned_abs, Option, Some, None, option_map, unwrap_or, is_some, bytes_eq, true, false}
+use Rattle.std.specs.Prelude.{ℕ, ◌+◌, ◌*◌, ◌-◌, ◌%◌, ◌==◌, List, [], ◌∷◌, Bool, not, if◌then◌else◌, nat_lt, length, fold, sum_by, count_by, max, min, ◌^◌, unsigned_abs, Option, Some, None, option_map, unwrap_or, is_some, bytes_eq, true, false}
 use Rattle.std.specs.List.{list_any, enumerate_from}
 use Rattle.std.specs.Option.{option_or}
 use Rattle.rt_base.specs.Sides.{Sides}
@@ -105,24 +105,45 @@ level_fault rows l = fault_if (not (list_any (is_used l) rows)) (NoTracks l.name
 abbrev pub limit_fault : Limited → ℕ → ℕ → Option BuildError
 limit_fault what count most = fault_if (nat_lt most count) (Limit what count most)
 
--- units; names and wiring, section by section, each in file order; layers without tracks; guides; and how many routing layers there are
-abbrev pub name_faults : Input → List (Option BuildError)
-name_faults i =
+-- units, and the layers that TRACKS statements name
+unfoldable pub unit_fault : Input → Option BuildError
+unit_fault i = first_of (
     scale_fault i.lef i.def
     ∷ first_by (row_fault (layer_names_of i.lef)) i.def.tracks
-    ∷ vias_part i
-    ∷ first_by (component_fault i.lef.macros) i.def.components
+    ∷ [])
+
+-- the macros of components, and the layers of pins and of blockages
+unfoldable pub placed_fault : Input → Option BuildError
+placed_fault i = first_of (
+    first_by (component_fault i.lef.macros) i.def.components
     ∷ first_by (pin_fault (layer_names_of i.lef)) i.def.pins
     ∷ rects_fault (layer_names_of i.lef) i.def.blockages
-    ∷ first_by (wiring_fault i true) i.def.special
+    ∷ [])
+
+-- the wiring of special nets, and the connections and the wiring of nets
+unfoldable pub wired_fault : Input → Option BuildError
+wired_fault i = first_of (
+    first_by (wiring_fault i true) i.def.special
     ∷ first_by (net_fault i) (enumerate_from 0 i.def.nets)
-    ∷ first_by (level_fault i.def.tracks) (routing_layers i.lef.layers)
+    ∷ [])
+
+-- layers without tracks, guides, and how many routing layers there are
+unfoldable pub level_and_guide_fault : Input → Option BuildError
+level_and_guide_fault i = first_of (
+    first_by (level_fault i.def.tracks) (routing_layers i.lef.layers)
     ∷ first_by (guide_fault (layer_names_of i.lef) (net_names i.def.nets)) (unwrap_or i.guides [])
     ∷ limit_fault RoutingLayers (length (routing_layers i.lef.layers)) 16
-    ∷ []
+    ∷ [])
 
-abbrev pub name_fault : Input → Option BuildError
-name_fault i = first_of (name_faults i)
+-- units and names, section by section, each in file order; then levels and guides
+unfoldable pub name_fault : Input → Option BuildError
+name_fault i = first_of (
+    unit_fault i
+    ∷ vias_part i
+    ∷ placed_fault i
+    ∷ wired_fault i
+    ∷ level_and_guide_fault i
+    ∷ [])
 
 -- the greatest distance of a side from 0
 abbrev pub farthest : Sides → ℕ
@@ -134,11 +155,15 @@ largest_coordinate shapes = fold (λ (most : ℕ) (s : Shape). max most (farthes
 abbrev pub usable_count : Tech → ℕ
 usable_count tech = count_by (λ (v : Via). v.usable) tech.vias
 
+-- the lines of a level, as the limit says them: no number above 2^128 - 1 is said
+abbrev pub lines_said : Layer → List TrackRow → ℕ
+lines_said l rows = min (line_count l rows) (2 ^ 128 - 1)
+
 -- usable vias, track lines (level by level, bottom up), nets, shapes of the input and their coordinates
 abbrev pub count_faults : Input → Tech → List (Option BuildError)
 count_faults i tech =
     limit_fault UsableVias (usable_count tech) 64
-    ∷ first_by (λ (l : Layer). limit_fault Tracks (line_count l i.def.tracks) 65536) (routing_layers i.lef.layers)
+    ∷ first_by (λ (l : Layer). limit_fault Tracks (lines_said l i.def.tracks) 65536) (routing_layers i.lef.layers)
     ∷ limit_fault Nets (length i.def.nets) 1000000
     ∷ limit_fault FixedShapes (length (fixed_of i)) 4194304
     ∷ limit_fault Coordinate (largest_coordinate (fixed_of i)) 1073741824

@@ -5,6 +5,7 @@ pub mod Ground
 pub mod Indexes
 pub mod Indexing
 pub mod Inputs
+pub mod Known
 pub mod Lines
 pub mod LookUps
 pub mod Metals

@@ -3,13 +3,14 @@ ghost use Rattle.std.specs.Prelude.{◌≡◌, ◌<◌, ◌^◌, All, IfOk, fals
 ghost use Rattle.std.specs.List.{enumerate_from, list_any};
 ghost use Rattle.std.specs.Option.{option_copied};
 ghost use Rattle.def_text.specs.Defs.{IsDef, IsRange};
-ghost use Rattle.build.specs.Faults.{first_by, scale_fault, layer_fault, row_fault, rects_fault, component_fault, pin_fault, connection_fault, net_fault, guide_fault, level_fault, limit_fault, name_fault};
+ghost use Rattle.build.specs.Faults.{first_by, scale_fault, layer_fault, row_fault, rects_fault, component_fault, pin_fault, connection_fault, net_fault, guide_fault, level_fault, limit_fault, unit_fault, placed_fault, wired_fault, level_and_guide_fault, name_fault};
 ghost use Rattle.build.specs.Findings.{Finds};
 ghost use Rattle.build.specs.Indexes.{Tells};
 ghost use Rattle.build.specs.Inputs.{IsInput, input_by};
 ghost use Rattle.cells.specs.Firsts.{ArePlaces};
 ghost use Rattle.build.specs.LookUps.{has_component as has_component_of, has_pin as has_pin_of};
 ghost use Rattle.build.specs.Indexing.{IsLookup};
+ghost use Rattle.build.specs.Known.{IsKnown};
 ghost use Rattle.build.specs.Metals.{IsWireTech, IsWireMetal, AreOn};
 ghost use Rattle.build.specs.TrackLines.{is_used, routing_layers};
 ghost use Rattle.build.specs.Wires.{metal_of_net as metal_said};
@@ -31,10 +32,10 @@ use rt_base::{Layer, LayerNo, Name, Rect, Seq};
 use std::alloc::Global;
 
 /// Whether a count is at most so much.
-pub fn check_limit(what: Limited, count: u64, most: u64) -> Result<(), BuildError>
+pub fn check_limit(what: Limited, count: u128, most: u64) -> Result<(), BuildError>
     ensures { Tells result (limit_fault what count most) }
 {
-    if count > most {
+    if count > u128::from(most) {
         return Err(BuildError::Limit { what, count, most });
     }
     Ok(())
@@ -221,8 +222,7 @@ fn net_metal(
     number: u32,
     net: &DefNet,
 ) -> Result<Seq<(LayerNo, Rect)>, BuildError>
-    requires given { IsInput (input_by given.now) }
-    requires known { IsLookup given.now.lef.now given.now.def.now known.now }
+    requires known { IsKnown given.now known.now }
     requires on { IsWireTech (input_by given.now) on.now }
     requires ranges { All (IsRange (length given.now.tokens.now)) net.now.wiring }
     ensures metal { Finds (λ m. m ≡ metal_said (input_by given.now) false net.now) result (net_fault (input_by given.now) (number, net.now)) }
@@ -246,8 +246,7 @@ fn metal_of_nets(
     known: &Lookup,
     on: &WireTech,
 ) -> Result<Seq<Seq<(LayerNo, Rect)>>, BuildError>
-    requires given { IsInput (input_by given.now) }
-    requires known { IsLookup given.now.lef.now given.now.def.now known.now }
+    requires known { IsKnown given.now known.now }
     requires on { IsWireTech (input_by given.now) on.now }
     ensures metal { Finds (λ ms. ms ≡ map (metal_said (input_by given.now) false) given.now.def.now.nets) result (first_by (net_fault (input_by given.now)) (enumerate_from 0 given.now.def.now.nets)) }
     ensures layers { IfOk result (All (AreOn (input_by given.now))) }
@@ -333,34 +332,65 @@ fn check_guides(alloc: Global, known: &Lookup, guides: Option<&Guides>) -> Resul
     }
 }
 
+/// Units, and then the layers that TRACKS statements name.
+fn check_units(alloc: Global, given: &Given, known: &Lookup) -> Result<(), BuildError>
+    requires { IsKnown given.now known.now }
+    ensures { Tells result (unit_fault (input_by given.now)) }
+{
+    check_scale(given.lef, given.def)?;
+    check_rows(alloc, &known.layers, given.def.tracks.as_slice())
+}
+
+/// The macros of components, and then the layers of pins and of blockages.
+fn check_placed(alloc: Global, given: &Given, known: &Lookup) -> Result<(), BuildError>
+    requires { IsKnown given.now known.now }
+    ensures { Tells result (placed_fault (input_by given.now)) }
+{
+    let macros = given.lef.macros.as_slice();
+    let components = given.def.components.as_slice();
+    check_components(alloc, &known.cells, macros, components)?;
+    check_pins(alloc, &known.layers, given.def.pins.as_slice())?;
+    check_rects(alloc, &known.layers, given.def.blockages.as_slice())
+}
+
+/// The rectangles of the special nets, and then of the nets, whose connections are tested.
+fn metal_of_wires(
+    alloc: Global,
+    given: &Given,
+    known: &Lookup,
+    on: &WireTech,
+) -> Result<WireMetal, BuildError>
+    requires known { IsKnown given.now known.now }
+    requires on { IsWireTech (input_by given.now) on.now }
+    ensures { Finds (IsWireMetal (input_by given.now)) result (wired_fault (input_by given.now)) }
+{
+    let special = metal_of_special(alloc, given, on)?;
+    let nets = metal_of_nets(alloc, given, known, on)?;
+    Ok(WireMetal { special, nets })
+}
+
+/// Layers without tracks, then guides, and then how many routing layers there are.
+fn check_levels_and_guides(alloc: Global, given: &Given, known: &Lookup) -> Result<(), BuildError>
+    requires { IsKnown given.now known.now }
+    ensures { Tells result (level_and_guide_fault (input_by given.now)) }
+{
+    let layers = given.lef.layers.as_slice();
+    check_levels(alloc, layers, given.def.tracks.as_slice())?;
+    check_guides(alloc, known, given.guides)?;
+    let count = routing_count(layers) as u128;
+    check_limit(Limited::RoutingLayers, count, 16)
+}
+
 /// Units, names, wiring, layers without tracks and guides, and how many routing layers there are.
 /// Answers the rectangles of the wiring that was read.
 pub fn check_names(alloc: Global, given: &Given, known: &Lookup) -> Result<WireMetal, BuildError>
-    requires given { IsInput (input_by given.now) }
-    requires known { IsLookup given.now.lef.now given.now.def.now known.now }
+    requires { IsKnown given.now known.now }
     ensures { Finds (IsWireMetal (input_by given.now)) result (name_fault (input_by given.now)) }
 {
-    let lef = given.lef;
-    let def = given.def;
-    check_scale(lef, def)?;
-    check_rows(alloc, &known.layers, def.tracks.as_slice())?;
+    check_units(alloc, given, known)?;
     let on = names_of_wires(alloc, given)?;
-    check_components(
-        alloc,
-        &known.cells,
-        lef.macros.as_slice(),
-        def.components.as_slice(),
-    )?;
-    check_pins(alloc, &known.layers, def.pins.as_slice())?;
-    check_rects(alloc, &known.layers, def.blockages.as_slice())?;
-    let special = metal_of_special(alloc, given, &on)?;
-    let nets = metal_of_nets(alloc, given, known, &on)?;
-    check_levels(alloc, lef.layers.as_slice(), def.tracks.as_slice())?;
-    check_guides(alloc, known, given.guides)?;
-    check_limit(
-        Limited::RoutingLayers,
-        routing_count(lef.layers.as_slice()) as u64,
-        16,
-    )?;
-    Ok(WireMetal { special, nets })
+    check_placed(alloc, given, known)?;
+    let metal = metal_of_wires(alloc, given, known, &on)?;
+    check_levels_and_guides(alloc, given, known)?;
+    Ok(metal)
 }

@@ -91,7 +91,7 @@ pub enum BuildError {
     #[error("{what}: {count} is more than {most}")]
     Limit {
         what: Limited,
-        count: u64,
+        count: u128,
         most: u64,
     },
     #[error("out of memory")]

@@ -4,10 +4,10 @@ ghost use Rattle.rt_base.specs.Ranges.{AreSidesWithin};
 ghost use Rattle.build.specs.declared.error.Limited.TheVariants.{Tracks as OfTracks};
 ghost use Rattle.rt_base.specs.Tiles.{columns_of, rows_of};
 ghost use Rattle.build.specs.Built.{fixed_of};
-ghost use Rattle.build.specs.Faults.{first_by, limit_fault, farthest, largest_coordinate, usable_count, count_fault, entry_count, met_count, size_fault};
+ghost use Rattle.build.specs.Faults.{first_by, lines_said, limit_fault, farthest, largest_coordinate, usable_count, count_fault, entry_count, met_count, size_fault};
 ghost use Rattle.build.specs.Indexes.{Tells};
 ghost use Rattle.build.specs.Inputs.{input_by};
-ghost use Rattle.build.specs.TrackLines.{line_count, routing_layers};
+ghost use Rattle.build.specs.TrackLines.{routing_layers};
 
 use crate::checks::check_limit;
 use crate::error::{BuildError, Limited};
@@ -24,31 +24,25 @@ fn usable(tech: &Tech) -> usize
     tech.vias.as_slice().iter().filter(|via| via.usable).count()
 }
 
-/// How many lines the statements of a layer say. No text says so many that they don't fit.
-fn count_lines(layer: &Layer, rows: &[TrackRow]) -> Result<u64, Memory>
-    ensures { IfOk result (λ n. n ≡ line_count layer.now rows.now) }
+/// How many lines the statements of a layer say, or the greatest number where they say more.
+fn count_lines(layer: &Layer, rows: &[TrackRow]) -> u128
+    ensures { result ≡ lines_said layer.now rows.now }
 {
-    let mut lines = 0u64;
+    let mut lines = 0u128;
     for row in rows {
-        let said = match (times_used(layer, row) as u64).checked_mul(u64::from(row.count)) {
-            Some(said) => said,
-            None => return Err(Memory),
-        };
-        lines = match lines.checked_add(said) {
-            Some(lines) => lines,
-            None => return Err(Memory),
-        };
+        let times = times_used(layer, row) as u128;
+        lines = lines.saturating_add(times.saturating_mul(u128::from(row.count)));
     }
-    Ok(lines)
+    lines
 }
 
 /// The lines of each level.
 fn check_lines(layers: &[Layer], rows: &[TrackRow]) -> Result<(), BuildError>
-    ensures { Tells result (first_by (λ l. limit_fault OfTracks (line_count l rows.now) 65536) (routing_layers layers.now)) }
+    ensures { Tells result (first_by (λ l. limit_fault OfTracks (lines_said l rows.now) 65536) (routing_layers layers.now)) }
 {
     for layer in layers {
         if layer.routing {
-            check_limit(Limited::Tracks, count_lines(layer, rows)?, 65536)?;
+            check_limit(Limited::Tracks, count_lines(layer, rows), 65536)?;
         }
     }
     Ok(())
@@ -79,11 +73,11 @@ pub fn check_counts(given: &Given, tech: &Tech, shapes: &[Shape]) -> Result<(), 
     requires { shapes.now ≡ fixed_of (input_by given.now) }
     ensures { Tells result (count_fault (input_by given.now) tech.now) }
 {
-    check_limit(Limited::UsableVias, usable(tech) as u64, 64)?;
+    check_limit(Limited::UsableVias, usable(tech) as u128, 64)?;
     check_lines(given.lef.layers.as_slice(), given.def.tracks.as_slice())?;
-    check_limit(Limited::Nets, given.def.nets.len() as u64, 1_000_000)?;
-    check_limit(Limited::FixedShapes, shapes.len() as u64, 4_194_304)?;
-    check_limit(Limited::Coordinate, coordinate(shapes), 1_073_741_824)
+    check_limit(Limited::Nets, given.def.nets.len() as u128, 1_000_000)?;
+    check_limit(Limited::FixedShapes, shapes.len() as u128, 4_194_304)?;
+    check_limit(Limited::Coordinate, u128::from(coordinate(shapes)), 1_073_741_824)
 }
 
 /// How many entries these pins have.
@@ -149,7 +143,8 @@ pub fn check_sizes(grid: &Grid, nets: &[Net], shapes: &[Shape]) -> Result<(), Bu
     requires shapes { length shapes.now ≤ 4194304 }
     ensures { Tells result (size_fault grid.now shapes.now nets.now) }
 {
-    check_limit(Limited::Entries, count_entries(nets)?, 16_777_216)?;
-    check_limit(Limited::Tiles, grid.columns() * grid.rows(), 1_048_576)?;
-    check_limit(Limited::TileShapes, count_pairs(grid, shapes), 16_777_216)
+    check_limit(Limited::Entries, u128::from(count_entries(nets)?), 16_777_216)?;
+    let tiles = u128::from(grid.columns()) * u128::from(grid.rows());
+    check_limit(Limited::Tiles, tiles, 1_048_576)?;
+    check_limit(Limited::TileShapes, u128::from(count_pairs(grid, shapes)), 16_777_216)
 }

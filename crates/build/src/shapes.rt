@@ -6,7 +6,8 @@ ghost use Rattle.lef_text.specs.IsLef.{IsLef};
 ghost use Rattle.def_text.specs.Defs.{IsDef};
 ghost use Rattle.cells.specs.Indexes.{owner_in};
 ghost use Rattle.build.specs.Indexing.{IsLookup};
-ghost use Rattle.build.specs.Inputs.{IsInput, input_by};
+ghost use Rattle.build.specs.Inputs.{input_by};
+ghost use Rattle.build.specs.Known.{IsKnown};
 ghost use Rattle.build.specs.Metals.{IsWireMetal, IsOnLayer, wire_shapes};
 ghost use Rattle.build.specs.Wires.{special_shapes};
 
@@ -95,8 +96,7 @@ fn add_special(
     known: &Lookup,
     metal: &WireMetal,
 ) -> Result<(), Memory>
-    requires given { IsInput (input_by given.now) }
-    requires known { IsLookup given.now.lef.now given.now.def.now known.now }
+    requires known { IsKnown given.now known.now }
     requires metal { IsWireMetal (input_by given.now) metal.now }
     ensures { OnOk result (shapes.new.items ≡ shapes.old.items ++ flat_map (special_shapes (input_by given.now)) given.now.def.now.special) }
 {
@@ -128,8 +128,7 @@ pub fn fixed_shapes(
     known: &Lookup,
     metal: &WireMetal,
 ) -> Result<Vec<Shape>, Memory>
-    requires given { IsInput (input_by given.now) }
-    requires known { IsLookup given.now.lef.now given.now.def.now known.now }
+    requires known { IsKnown given.now known.now }
     requires metal { IsWireMetal (input_by given.now) metal.now }
     ensures shapes { IfOk result (λ v. v.items ≡ fixed_of (input_by given.now)) }
     ensures layers { IfOk result (λ v. All (IsOnLayer (length given.now.lef.now.layers)) v.items) }

@@ -8,17 +8,17 @@ use Rattle.std.proofs.lemmas.List.Elements.{All-map, Contains-get_or, Contains-a
 use Rattle.std.proofs.lemmas.List.Kept.{AllPairs-cons}
 use Rattle.std.proofs.lemmas.Option.{slice_get_within}
 use Rattle.rt_base.specs.Sides.{Sides}
-use Rattle.rt_base.specs.Geometry.{Holds}
+use Rattle.rt_base.specs.Geometry.{Holds, distance, nearest, nearest_point}
 use Rattle.rt_base.specs.declared.geometry.Point.{Point}
 use Rattle.rt_base.specs.declared.walk.Entry.{Entry}
 use Rattle.rt_base.specs.declared.walk.EntryKind.{EntryKind}
 use Rattle.rt_base.specs.declared.walk.EntryKind.TheVariants.{Pin as AtPin, Stub}
+use Rattle.rt_base.proofs.Lists.{Any-cases, Any-none, Any-here, Any-there}
 use Rattle.rt_base.proofs.Ranges.{sides_from_within, within_from_sides}
-use Rattle.track_graph.specs.Designs.{KindFits, FitsPin}
 use Rattle.rt_base.specs.declared.walk.Vertex.{Vertex}
-use Rattle.track_graph.specs.Entries.{nearest, nearest_point, IsPinEntry, IsStubEntry, IsEntry}
+use Rattle.track_graph.specs.Entries.{IsPinEntry, IsStubEntry, IsEntry}
 use Rattle.track_graph.specs.Levels.{TrackSystem, IsVertex, levels, layer_no}
-use Rattle.track_graph.specs.Metal.{Metal, distance}
+use Rattle.track_graph.specs.Metal.{Metal}
 use Rattle.pin_access.specs.EntryOrder.{IsVertexBefore, IsEntryBefore, rect_number, pin_entry, stub_entry}
 use Rattle.pin_access.specs.Nearby.{IsNear, IsNearMetal, IsRect, steps_of}
 use Rattle.pin_access.proofs.LevelLemmas.{level_unique}
@@ -45,34 +45,21 @@ near_metal_exactly g steps level reach m v within on is = (
 pub near_none : (g : TrackSystem) (steps : ℕ) (m : Metal) (v : Vertex) → ((k : ℕ) → k < length (levels g.tech) → layer_no g.tech k ≡ m.0.0 → ⊥) → IsNearMetal g steps m v → ⊥
 near_none g steps m v none h = none v.level h.vertex.level (sym h.on_layer)
 
-pub any_cases : {X : Type 0} → (P : X → Type 0) (x : X) (xs : List X) → Any P (x ∷ xs) → P x ⊎ Any P xs
-any_cases P x xs (zero, y, lt, is, h) = inl (subst P (sym is) h)
-any_cases P x xs (suc k, y, lt, is, h) = inr (k, y, omega arith, is, h)
-
-pub any_none : {X : Type 0} → (P : X → Type 0) → Any P [] → ⊥
-any_none P (k, y, lt, is, h) = omega arith
-
-pub any_here : {X : Type 0} → (P : X → Type 0) (x : X) (xs : List X) → P x → Any P (x ∷ xs)
-any_here P x xs h = (0, x, omega arith, refl, h)
-
-pub any_there : {X : Type 0} → (P : X → Type 0) (x : X) (xs : List X) → Any P xs → Any P (x ∷ xs)
-any_there P x xs (k, y, lt, is, h) = (suc k, y, omega arith, is, h)
-
 -- one rectangle more
 pub gathered_more : (P : Metal → Type 0) (H N A : Type 0) (x : Metal) (rest : List Metal) → (H ⊎ Any P (x ∷ rest)) ↔ A → N ↔ (H ⊎ P x) → (N ⊎ Any P rest) ↔ A
 gathered_more P H N A x rest before step = (
   λ h. ⊎_elim
-      (λ (n : N). ⊎_elim (λ (old : H). before.0 (inl old)) (λ (here : P x). before.0 (inr (any_here P x rest here))) (step.0 n))
-      (λ (later : Any P rest). before.0 (inr (any_there P x rest later)))
+      (λ (n : N). ⊎_elim (λ (old : H). before.0 (inl old)) (λ (here : P x). before.0 (inr (Any-here P x rest here))) (step.0 n))
+      (λ (later : Any P rest). before.0 (inr (Any-there P x rest later)))
       h,
   λ a. ⊎_elim
       (λ (old : H). inl (step.1 (inl old)))
-      (λ (some : Any P (x ∷ rest)). ⊎_elim (λ (here : P x). inl (step.1 (inr here))) (λ (later : Any P rest). inr later) (any_cases P x rest some))
+      (λ (some : Any P (x ∷ rest)). ⊎_elim (λ (here : P x). inl (step.1 (inr here))) (λ (later : Any P rest). inr later) (Any-cases P x rest some))
       (before.1 a),
 )
 
 -- order in lists that are joined, and in images of lists
-all_pairs_joined : {X : Type 0} → (R : X → X → Type 0) (xs ys : List X) → AllPairs R xs → AllPairs R ys → ((x y : X) → Contains xs x → Contains ys y → R x y) → AllPairs R (xs ++ ys)
+pub all_pairs_joined : {X : Type 0} → (R : X → X → Type 0) (xs ys : List X) → AllPairs R xs → AllPairs R ys → ((x y : X) → Contains xs x → Contains ys y → R x y) → AllPairs R (xs ++ ys)
 all_pairs_joined R xs ys hx hy across i j d lt within = ⊎_elim
     (λ (j_in : j < length xs). let i_in : i < length xs = omega arith in rw (get_or_append_left xs ys d i i_in, get_or_append_left xs ys d j j_in) (hx i j d lt j_in))
     (λ (j_out : length xs ≤ j). ⊎_elim
@@ -81,7 +68,7 @@ all_pairs_joined R xs ys hx hy across i j d lt within = ⊎_elim
     (cases_lt i (length xs)))
     (cases_lt j (length xs))
 
-all_pairs_image : {X Y : Type 0} → (f : X → Y) (R : Y → Y → Type 0) (xs : List X) → AllPairs (λ a b. R (f a) (f b)) xs → AllPairs R (map f xs)
+pub all_pairs_image : {X Y : Type 0} → (f : X → Y) (R : Y → Y → Type 0) (xs : List X) → AllPairs (λ a b. R (f a) (f b)) xs → AllPairs R (map f xs)
 all_pairs_image f R [] h = λ i j d lt within. absurd (omega arith)
 all_pairs_image f R (x ∷ xs) h = AllPairs-cons R (f x) (map f xs) (All-map (R (f x)) f xs (λ k d within. h 0 (suc k) d (omega arith) (omega arith))) (all_pairs_image f R xs (λ i j d lt within. h (suc i) (suc j) d (omega arith) (omega arith)))
 
@@ -142,7 +129,7 @@ single_part rects k m within =
     rw (one, drop_more rects k m within)
 
 pub any_single : {X : Type 0} → (P : X → Type 0) (x : X) → Any P (x ∷ []) ↔ P x
-any_single P x = (λ h. ⊎_elim (λ (here : P x). here) (λ (none : Any P []). absurd (any_none P none)) (any_cases P x [] h), λ h. any_here P x [] h)
+any_single P x = (λ h. ⊎_elim (λ (here : P x). here) (λ (none : Any P []). absurd (Any-none P none)) (Any-cases P x [] h), λ h. Any-here P x [] h)
 
 -- no way from a rectangle is the same as inside it
 part_inside : (lo hi z : ℤ) → lo ≤ℤ z → z ≤ℤ hi → unsigned_abs (nearest lo hi z -ℤ z) ≤ 0
@@ -221,18 +208,6 @@ entries_outside g pin rects inside found e are empty exact = (
 
 pub pins_ordered : (pin : ℕ) (inside : List Vertex) (found : List Entry) → AllPairs IsVertexBefore inside → found ≡ map (pin_entry pin) inside → AllPairs IsEntryBefore found
 pins_ordered pin inside found up is = subst (λ l. AllPairs IsEntryBefore l) (sym is) (all_pairs_image (pin_entry pin) IsEntryBefore inside (λ i j d lt within. inr (refl, up i j d lt within)))
-
-entry_fits : (g : TrackSystem) (pin : ℕ) (rects : List Metal) (e : Entry) → IsEntry g pin rects e → FitsPin g pin rects e
-entry_fits g pin rects e h = ⊎_elim
-    (λ (here : IsPinEntry g pin rects e). let f : FitsPin g pin rects e = record { vertex = here.vertex; kind = subst (KindFits pin rects) (sym here.kind) refl } in f)
-    (λ (away : ((f : Entry) → IsPinEntry g pin rects f → ⊥) × IsStubEntry g pin rects e).
-    let s : IsStubEntry g pin rects e = away.1 in
-    let f : FitsPin g pin rects e = record { vertex = s.vertex; kind = subst (KindFits pin rects) (sym s.kind) (refl, slice_get_within rects s.k s.metal s.is_metal) } in
-    f)
-    h
-
-pub all_fit : (g : TrackSystem) (pin : ℕ) (rects : List Metal) (found : List Entry) → ((e : Entry) → Contains found e ↔ IsEntry g pin rects e) → All (FitsPin g pin rects) found
-all_fit g pin rects found exact k d within = entry_fits g pin rects (get_or found k d) ((exact (get_or found k d)).0 (Contains-get_or found k d within))
 
 pub none_from_test : (vs : List Vertex) → true ≡ (length vs == 0) → vs ≡ []
 none_from_test [] h = refl

@@ -1,6 +1,10 @@
-pub mod LineLemmas
 pub mod Members
 pub mod NearLemmas
 pub mod OrderLemmas
 pub mod LevelLemmas
+pub mod Ascending
+pub mod Banding
+pub mod Counting
+pub mod Sweeping
+pub mod DieLemmas
 pub mod EntryLemmas

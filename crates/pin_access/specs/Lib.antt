@@ -1,2 +1,5 @@
+pub mod Bands
+pub mod Counts
+pub mod DieTracks
 pub mod EntryOrder
 pub mod Nearby

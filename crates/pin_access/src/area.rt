@@ -3,47 +3,26 @@ ghost use Rattle.std.specs.Prelude.{◌≡◌, ◌↔◌, ◌⊎◌, ◌++◌, �
 ghost use Rattle.rt_base.specs.Ranges.{IsWithin, AreSidesWithin};
 ghost use Rattle.rt_base.specs.declared.walk.Vertex.{Vertex as OfVertex};
 ghost use Rattle.track_graph.specs.Designs.{AreTracks};
-ghost use Rattle.track_graph.specs.Entries.{nearest, nearest_point};
-ghost use Rattle.track_graph.specs.Levels.{levels, is_horizontal};
+ghost use Rattle.track_graph.specs.Levels.{levels};
 ghost use Rattle.pin_access.specs.EntryOrder.{system_of};
-ghost use Rattle.pin_access.specs.Nearby.{is_near, vertex_at, near_on_line, near_on_lines, range_near, across_of, along_of, IsNear};
+ghost use Rattle.pin_access.specs.Nearby.{is_near, near_on_line, near_on_lines, range_near, across_of, along_of, IsNear};
 
-use crate::lines::lines_within;
-use rt_base::{Memory, Point, Rect, Span, Tech, Vertex};
-use track_graph::{Tracks, level_lines, lines_under};
+use rt_base::{Memory, Rect, Span, Tech, Vertex};
+use track_graph::{Tracks, is_level_horizontal, level_lines, lines_in, lines_under, vertex_at};
 
-/// A level, whether its tracks run in x, a rectangle, and how far from it a vertex may be.
+/// A level, a rectangle, and how far from it a vertex may be.
 #[derive(Clone, Copy)]
 pub struct Area {
     pub level: u8,
-    pub horizontal: bool,
     pub rect: Rect,
     pub reach: u64,
-}
-
-/// The number of a range that is nearest to z.
-fn nearest(lo: i64, hi: i64, z: i64) -> i64
-    requires { lo ≤ℤ hi }
-    ensures { result ≡ nearest lo hi z }
-{
-    z.clamp(lo, hi)
-}
-
-/// The point of a rectangle that is nearest to a point.
-fn nearest_in(rect: Rect, p: Point) -> Point
-    ensures { result ≡ nearest_point rect p }
-{
-    Point {
-        x: nearest(rect.xl, rect.xh, p.x),
-        y: nearest(rect.yl, rect.yh, p.y),
-    }
 }
 
 /// Whether a vertex is as near as the area reaches.
 fn is_in_reach(area: &Area, v: Vertex) -> bool
     ensures { result ≡ is_near area.now v }
 {
-    let from = nearest_in(area.rect, v.point);
+    let from = area.rect.nearest(v.point);
     let dx = from.x.abs_diff(v.point.x);
     if dx > area.reach {
         return false;
@@ -51,32 +30,17 @@ fn is_in_reach(area: &Area, v: Vertex) -> bool
     from.y.abs_diff(v.point.y) <= area.reach - dx
 }
 
-/// The vertex on a line at a position.
-fn vertex_on(area: &Area, line: i64, position: i64) -> Vertex
-    ensures { result ≡ vertex_at area.now line position }
-{
-    let point = if area.horizontal {
-        Point {
-            x: position,
-            y: line,
-        }
-    } else {
-        Point {
-            x: line,
-            y: position,
-        }
-    };
-    Vertex {
-        level: area.level,
-        point,
-    }
-}
-
 /// Adds the vertex on a line at a position where it is near.
-fn add_position(out: &mut Vec<Vertex>, area: &Area, line: i64, position: i64) -> Result<(), Memory>
-    ensures { OnOk result (out.new.items ≡ out.old.items ++ near_on_line area.now (position ∷ []) line) }
+fn add_position(
+    out: &mut Vec<Vertex>,
+    tech: &Tech,
+    area: &Area,
+    line: i64,
+    position: i64,
+) -> Result<(), Memory>
+    ensures { OnOk result (out.new.items ≡ out.old.items ++ near_on_line tech.now area.now (position ∷ []) line) }
 {
-    let v = vertex_on(area, line, position);
+    let v = vertex_at(tech, area.level, line, position);
     if is_in_reach(area, v) {
         out.push(v)?;
     }
@@ -84,11 +48,17 @@ fn add_position(out: &mut Vec<Vertex>, area: &Area, line: i64, position: i64) ->
 }
 
 /// Adds the near vertices on a line.
-fn add_line(out: &mut Vec<Vertex>, area: &Area, positions: &[i64], line: i64) -> Result<(), Memory>
-    ensures { OnOk result (out.new.items ≡ out.old.items ++ near_on_line area.now positions.now line) }
+fn add_line(
+    out: &mut Vec<Vertex>,
+    tech: &Tech,
+    area: &Area,
+    positions: &[i64],
+    line: i64,
+) -> Result<(), Memory>
+    ensures { OnOk result (out.new.items ≡ out.old.items ++ near_on_line tech.now area.now positions.now line) }
 {
     for position in positions {
-        add_position(out, area, line, *position)?;
+        add_position(out, tech, area, line, *position)?;
     }
     Ok(())
 }
@@ -96,22 +66,23 @@ fn add_line(out: &mut Vec<Vertex>, area: &Area, positions: &[i64], line: i64) ->
 /// Adds the near vertices on these lines.
 fn add_lines(
     out: &mut Vec<Vertex>,
+    tech: &Tech,
     area: &Area,
     lines: &[i64],
     positions: &[i64],
 ) -> Result<(), Memory>
-    ensures { OnOk result (out.new.items ≡ out.old.items ++ near_on_lines area.now lines.now positions.now) }
+    ensures { OnOk result (out.new.items ≡ out.old.items ++ near_on_lines tech.now area.now lines.now positions.now) }
 {
     for line in lines {
-        add_line(out, area, positions, *line)?;
+        add_line(out, tech, area, positions, *line)?;
     }
     Ok(())
 }
 
 /// A range made larger by a reach, as far as the die goes.
 fn range_near(lo: i64, hi: i64, reach: u64, die_lo: i64, die_hi: i64) -> Span
-    requires lo { IsWithin (2 ^ 32) lo }
-    requires hi { IsWithin (2 ^ 32) hi }
+    requires lo { IsWithin (2 ^ 61) lo }
+    requires hi { IsWithin (2 ^ 61) hi }
     requires reach { reach ≤ 2 ^ 34 }
     ensures { result ≡ range_near lo hi reach die_lo die_hi }
 {
@@ -122,15 +93,15 @@ fn range_near(lo: i64, hi: i64, reach: u64, die_lo: i64, die_hi: i64) -> Span
 }
 
 /// The range of the tracks of the area's level that are near enough.
-fn across(area: &Area, die: Rect) -> Span
-    requires rect { AreSidesWithin (2 ^ 32) area.now.rect }
+fn across(tech: &Tech, area: &Area, die: Rect) -> Span
+    requires rect { AreSidesWithin (2 ^ 61) area.now.rect }
     requires reach { area.now.reach ≤ 2 ^ 34 }
-    ensures range { result ≡ across_of area.now die }
+    ensures range { result ≡ across_of tech.now area.now die }
     ensures wide { area.now.rect.xl ≤ℤ area.now.rect.xh }
     ensures tall { area.now.rect.yl ≤ℤ area.now.rect.yh }
 {
     let rect = area.rect;
-    if area.horizontal {
+    if is_level_horizontal(tech, area.level) {
         range_near(rect.yl, rect.yh, area.reach, die.yl, die.yh)
     } else {
         range_near(rect.xl, rect.xh, area.reach, die.xl, die.xh)
@@ -138,13 +109,13 @@ fn across(area: &Area, die: Rect) -> Span
 }
 
 /// The range of the positions of the area's level that are near enough.
-fn along(area: &Area, die: Rect) -> Span
-    requires rect { AreSidesWithin (2 ^ 32) area.now.rect }
+fn along(tech: &Tech, area: &Area, die: Rect) -> Span
+    requires rect { AreSidesWithin (2 ^ 61) area.now.rect }
     requires reach { area.now.reach ≤ 2 ^ 34 }
-    ensures { result ≡ along_of area.now die }
+    ensures { result ≡ along_of tech.now area.now die }
 {
     let rect = area.rect;
-    if area.horizontal {
+    if is_level_horizontal(tech, area.level) {
         range_near(rect.xl, rect.xh, area.reach, die.xl, die.xh)
     } else {
         range_near(rect.yl, rect.yh, area.reach, die.yl, die.yh)
@@ -161,17 +132,16 @@ pub fn add_area(
 ) -> Result<(), Memory>
     requires tracks { AreTracks tech.now tracks.now }
     requires level { area.now.level < length (levels tech.now) }
-    requires direction { area.now.horizontal ≡ is_horizontal tech.now area.now.level }
-    requires rect { AreSidesWithin (2 ^ 32) area.now.rect }
+    requires rect { AreSidesWithin (2 ^ 61) area.now.rect }
     requires reach { area.now.reach ≤ 2 ^ 34 }
     ensures { OnOk result ((v : OfVertex) → Contains out.new.items v ↔ (Contains out.old.items v ⊎ IsNear (system_of tech.now tracks.now die) area.now.level area.now.reach area.now.rect v)) }
 {
     let level = area.level as usize;
-    let positions = along(area, die);
-    let lines = lines_within(level_lines(tracks, level), across(area, die));
-    let below = lines_within(lines_under(tracks, level), positions);
-    add_lines(out, area, lines, below)?;
-    let above = lines_within(level_lines(tracks, level + 1), positions);
-    add_lines(out, area, lines, above)?;
+    let positions = along(tech, area, die);
+    let lines = lines_in(level_lines(tracks, level), across(tech, area, die));
+    let below = lines_in(lines_under(tracks, level), positions);
+    add_lines(out, tech, area, lines, below)?;
+    let above = lines_in(level_lines(tracks, level + 1), positions);
+    add_lines(out, tech, area, lines, above)?;
     Ok(())
 }

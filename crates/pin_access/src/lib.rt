@@ -2,7 +2,8 @@
 #![tactic(auto)]
 
 mod area;
-mod lines;
+mod bands;
+mod die_tracks;
 mod listing;
 
 pub use listing::entries;

@@ -3,17 +3,17 @@ ghost use Rattle.std.specs.Prelude.{OnOk, map, ◌++◌, ◌≡◌, ◌≢◌, �
 ghost use Rattle.rt_base.specs.Geometry.{Holds};
 ghost use Rattle.rt_base.specs.declared.walk.Entry.{Entry as OfEntry};
 ghost use Rattle.rt_base.specs.declared.walk.Vertex.{Vertex as OfVertex};
-ghost use Rattle.track_graph.specs.Designs.{IsTech, AreTracks, IsMetal, FitsPin};
+ghost use Rattle.track_graph.specs.Designs.{IsTech, AreTracks};
 ghost use Rattle.track_graph.specs.Entries.{IsPinEntry, IsStubEntry, IsEntry, stub_reach};
-ghost use Rattle.track_graph.specs.Levels.{levels, layer_no, is_horizontal, IsVertex};
+ghost use Rattle.track_graph.specs.Levels.{levels, layer_no};
 ghost use Rattle.track_graph.specs.Metal.{Metal};
 ghost use Rattle.pin_access.specs.EntryOrder.{system_of, IsVertexBefore, IsEntryBefore, pin_entry, stub_entry};
-ghost use Rattle.pin_access.specs.Nearby.{steps_of, IsNearMetal, IsRect};
+ghost use Rattle.pin_access.specs.Nearby.{steps_of, IsNearMetal, IsPinMetal, IsRect};
 
 use crate::area::{Area, add_area};
 use rt_base::{Entry, EntryKind, LayerNo, Memory, Rect, Tech, Vertex};
 use std::alloc::Global;
-use track_graph::{Tracks, layer_number, level_layer};
+use track_graph::{Tracks, layer_number};
 
 /// The level of a layer, none where it is no routing layer.
 fn level_of(tech: &Tech, layer: LayerNo) -> Option<u8>
@@ -26,16 +26,6 @@ fn level_of(tech: &Tech, layer: LayerNo) -> Option<u8>
         }
     }
     None
-}
-
-/// Whether a level's tracks run in x.
-fn runs_in_x(tech: &Tech, level: u8) -> bool
-    ensures { result ≡ is_horizontal tech.now level }
-{
-    match level_layer(tech, level) {
-        Some((_, layer)) => layer.horizontal,
-        None => false,
-    }
 }
 
 /// So many of a level's largest steps.
@@ -62,7 +52,7 @@ fn add_near(
 ) -> Result<(), Memory>
     requires tech { IsTech tech.now }
     requires tracks { AreTracks tech.now tracks.now }
-    requires metal { IsMetal tech.now metal.now }
+    requires metal { IsPinMetal tech.now metal.now }
     requires steps { steps ≤ 2 }
     ensures adds { OnOk result ((v : OfVertex) → Contains out.new.items v ↔ (Contains out.old.items v ⊎ IsNearMetal (system_of tech.now tracks.now die) steps metal.now v)) }
     ensures rect { IsRect metal.now.1 }
@@ -74,7 +64,6 @@ fn add_near(
     };
     let area = Area {
         level,
-        horizontal: runs_in_x(tech, level),
         rect,
         reach: reach_of(tech, tracks, die, level, steps),
     };
@@ -103,7 +92,7 @@ fn vertices_near(
 ) -> Result<Vec<Vertex>, Memory>
     requires tech { IsTech tech.now }
     requires tracks { AreTracks tech.now tracks.now }
-    requires rects { All (IsMetal tech.now) rects.now }
+    requires rects { All (IsPinMetal tech.now) rects.now }
     requires steps { steps ≤ 2 }
     ensures exact { IfOk result (λ vs. (v : OfVertex) → Contains vs.items v ↔ Any (λ m. IsNearMetal (system_of tech.now tracks.now die) steps m v) rects.now) }
     ensures ordered { IfOk result (λ vs. AllPairs IsVertexBefore vs.items) }
@@ -160,7 +149,7 @@ fn stubs(
 ) -> Result<Vec<Entry>, Memory>
     requires tech { IsTech tech.now }
     requires tracks { AreTracks tech.now tracks.now }
-    requires rects { All (IsMetal tech.now) rects.now }
+    requires rects { All (IsPinMetal tech.now) rects.now }
     requires count { length rects.now < 2 ^ 32 }
     ensures exact { IfOk result (λ es. (e : OfEntry) → Contains es.items e ↔ IsStubEntry (system_of tech.now tracks.now die) pin rects.now e) }
     ensures ordered { IfOk result (λ es. AllPairs IsEntryBefore es.items) }
@@ -187,11 +176,10 @@ pub fn entries(
 ) -> Result<Vec<Entry>, Memory>
     requires tech { IsTech tech.now }
     requires tracks { AreTracks tech.now tracks.now }
-    requires rects { All (IsMetal tech.now) rects.now }
+    requires rects { All (IsPinMetal tech.now) rects.now }
     requires count { length rects.now < 2 ^ 32 }
     ensures exact { IfOk result (λ v. (e : OfEntry) → Contains v.items e ↔ IsEntry (system_of tech.now tracks.now die) pin rects.now e) }
     ensures ordered { IfOk result (λ v. AllPairs IsEntryBefore v.items) }
-    ensures fits { IfOk result (λ v. All (FitsPin (system_of tech.now tracks.now die) pin rects.now) v.items) }
 {
     let inside = vertices_near(alloc, tech, tracks, die, rects, 0)?;
     let vertices = inside.as_slice();

@@ -3,13 +3,13 @@ use Rattle.rt_base.specs.declared.tech.Layer.{Layer}
 use Rattle.def_text.specs.declared.def.TrackRow.{TrackRow}
 use Rattle.build.specs.declared.error.BuildError.{BuildError}
 use Rattle.build.specs.declared.error.Limited.TheVariants.{UsableVias, Tracks}
-use Rattle.build.specs.Faults.{first_by, limit_fault, usable_count}
-use Rattle.build.specs.TrackLines.{line_count, routing_layers}
+use Rattle.build.specs.Faults.{first_by, lines_said, limit_fault, usable_count}
+use Rattle.build.specs.TrackLines.{routing_layers}
 use Rattle.build.proofs.FirstFaults.{told_fault, fault_here, fault_later}
 use Rattle.build.proofs.limits.check_counts.Goals as goal
 
 abbrev lines_part : List Layer → List TrackRow → Option BuildError
-lines_part layers rows = first_by (λ (l : Layer). limit_fault Tracks (line_count l rows) 65536) (routing_layers layers)
+lines_part layers rows = first_by (λ (l : Layer). limit_fault Tracks (lines_said l rows) 65536) (routing_layers layers)
 
 lines_same : (layers more : List Layer) (rows others : List TrackRow) → layers ≡ more → rows ≡ others → lines_part layers rows ≡ lines_part more others
 lines_same layers more rows others l r = ap (λ (ls : List Layer). lines_part ls rows) l ∙ ap (lines_part more) r

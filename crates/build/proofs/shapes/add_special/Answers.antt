@@ -23,7 +23,7 @@ loop-number-preserved c =
     let names = c.args.known.now.nets in
     let before : List Shape = c.args.shapes.now.items ++ flat_map (special_shapes i) (take k nets) in
     let owner : c.owner_named-owner.result ≡ named_owner (input_by c.args.given.now).def.nets c.index-nets-number.result.name =
-    c.owner_named-owner.ensures ∙ ap (λ (b : List ℕ). owner_from (position (bytes_eq b) names)) c.bytes.ensures ∙ ap (λ (ns : List (List ℕ)). owner_from (position (bytes_eq net.name) ns)) c.requires.known.are_net_names in
+    c.owner_named-owner.ensures ∙ ap (λ (b : List ℕ). owner_from (position (bytes_eq b) names)) c.bytes.ensures ∙ ap (λ (ns : List (List ℕ)). owner_from (position (bytes_eq net.name) ns)) c.requires.known.is_lookup.are_net_names in
     let metal : c.as_slice.result.now ≡ metal_of_net (input_by c.args.given.now) true c.index-nets-number.result =
     c.as_slice.ensures
     ∙ metal_at (metal_of_net i true) nets c.as_slice-metals.result.now k net c.index-metals-number.result

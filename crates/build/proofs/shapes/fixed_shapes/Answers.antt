@@ -22,4 +22,4 @@ returns-clause-shapes c =
 pub returns-clause-layers : goal.returns-clause-layers
 returns-clause-layers c =
     let i = input_by c.args.given.now in
-    subst (λ (ss : List Shape). All (IsOnLayer (length i.lef.layers)) ss) (sym (returns-clause-shapes c)) (all_on i c.args.metal.now c.requires.given c.requires.metal)
+    subst (λ (ss : List Shape). All (IsOnLayer (length i.lef.layers)) ss) (sym (returns-clause-shapes c)) (all_on i c.args.metal.now c.requires.known.is_input c.requires.metal)

@@ -8,13 +8,14 @@ use Rattle.pin_access.proofs.area.add_area.Goals as goal
 pub returns : goal.returns
 returns c = λ v.
     let g = system_of c.args.tech.now c.args.tracks.now c.args.die in
+    let t = c.args.tech.now in
     let a = c.args.area.now in
-    let lines = c.lines_within-lines.result.now in
-    let below = c.lines_within-below.result.now in
-    let above = c.lines_within-above.result.now in
-    let is_lines : ArePart lines (lines_of c.args.tracks.now a.level) (across_of a c.args.die) = rw (c.level_lines.ensures, c.across.ensures.range) at c.lines_within-lines.ensures in
-    let is_below : ArePart below (lines_below c.args.tracks.now a.level) (along_of a c.args.die) = rw (c.lines_under.ensures, c.along-positions.ensures) at c.lines_within-below.ensures in
-    let is_above : ArePart above (lines_of c.args.tracks.now (a.level + 1)) (along_of a c.args.die) = rw (c.level_lines-2.ensures, c.along-positions.ensures) at c.lines_within-above.ensures in
-    let exact : (Contains (near_on_lines a lines below) v ⊎ Contains (near_on_lines a lines above) v) ↔ IsNear g a.level a.reach a.rect v = gathered_exactly g a lines below above v c.requires.level c.requires.direction (c.across.ensures.wide, c.across.ensures.tall) is_lines is_below is_above in
-    let new : c.add_lines-2.new.out.items ≡ (c.args.out.now.items ++ near_on_lines a lines below) ++ near_on_lines a lines above = rw c.in_ok-add_lines.ensures at c.in_ok-add_lines-2.ensures in
-    joined_exactly (IsNear g a.level a.reach a.rect v) c.args.out.now.items (near_on_lines a lines below) (near_on_lines a lines above) c.add_lines-2.new.out.items v new exact
+    let lines = c.lines_in-lines.result.now in
+    let below = c.lines_in-below.result.now in
+    let above = c.lines_in-above.result.now in
+    let is_lines : ArePart lines (lines_of c.args.tracks.now a.level) (across_of t a c.args.die) = rw (c.level_lines.ensures, c.across.ensures.range) at c.lines_in-lines.ensures.those in
+    let is_below : ArePart below (lines_below c.args.tracks.now a.level) (along_of t a c.args.die) = rw (c.lines_under.ensures, c.along-positions.ensures) at c.lines_in-below.ensures.those in
+    let is_above : ArePart above (lines_of c.args.tracks.now (a.level + 1)) (along_of t a c.args.die) = rw (c.level_lines-2.ensures, c.along-positions.ensures) at c.lines_in-above.ensures.those in
+    let exact : (Contains (near_on_lines t a lines below) v ⊎ Contains (near_on_lines t a lines above) v) ↔ IsNear g a.level a.reach a.rect v = gathered_exactly g a lines below above v c.requires.level (c.across.ensures.wide, c.across.ensures.tall) is_lines is_below is_above in
+    let new : c.add_lines-2.new.out.items ≡ (c.args.out.now.items ++ near_on_lines t a lines below) ++ near_on_lines t a lines above = rw c.in_ok-add_lines.ensures at c.in_ok-add_lines-2.ensures in
+    joined_exactly (IsNear g a.level a.reach a.rect v) c.args.out.now.items (near_on_lines t a lines below) (near_on_lines t a lines above) c.add_lines-2.new.out.items v new exact

@@ -10,7 +10,7 @@ loop-position-preserved c =
     let read : ℤ = get_or c.args.positions.now i (pos 0) in
     let z : ℤ = to_z w64 (of_z w64 read) in
     let same : z ≡ read = to_z-of_z w64 read (search rules) in
-    near_more c.args.area.now c.args.positions.now (to_z w64 (of_z w64 c.args.line)) i z _ c.loop-position.out.items _ (omega arith) (get_or_default c.args.positions.now i z (pos 0) (omega arith) ∙ sym same) c.loop-position.invariant c.in_ok-add_position.ensures
+    near_more c.args.tech.now c.args.area.now c.args.positions.now (to_z w64 (of_z w64 c.args.line)) i z _ c.loop-position.out.items _ (omega arith) (get_or_default c.args.positions.now i z (pos 0) (omega arith) ∙ sym same) c.loop-position.invariant c.in_ok-add_position.ensures
 
 pub returns : goal.returns
 returns c =

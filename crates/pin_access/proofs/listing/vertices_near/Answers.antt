@@ -4,7 +4,8 @@ use Rattle.std.proofs.lemmas.List.Elements.{All-more}
 use Rattle.track_graph.specs.Metal.{Metal}
 use Rattle.pin_access.specs.EntryOrder.{system_of}
 use Rattle.pin_access.specs.Nearby.{IsNearMetal, IsRect}
-use Rattle.pin_access.proofs.EntryLemmas.{gathered_more, any_none}
+use Rattle.pin_access.proofs.EntryLemmas.{gathered_more}
+use Rattle.rt_base.proofs.Lists.{Any-none}
 use Rattle.pin_access.proofs.listing.vertices_near.Goals as goal
 
 pub loop-metal-preserved : goal.loop-metal-preserved
@@ -26,5 +27,5 @@ returns-clause-exact c = λ v.
     let all = rw none at (c.loop-metal.invariant.exact v) in
     let same = c.put_in_order.ensures.same v in (
       λ h. all.0 (inl (same.0 h)),
-      λ h. same.1 (⊎_elim (λ (here : Contains c.loop-metal.vertices.items v). here) (λ (more : Any P []). absurd (any_none P more)) (all.1 h)),
+      λ h. same.1 (⊎_elim (λ (here : Contains c.loop-metal.vertices.items v). here) (λ (more : Any P []). absurd (Any-none P more)) (all.1 h)),
     )
