@@ -1,5 +1,5 @@
 -- How great the parts of a halo are, and that there is one halo.
-use Rattle.std.proofs.Common.{◌≡◌, ◌⊎◌, ℕ, ◌+◌, ◌*◌, ◌/◌, ◌^◌, ◌≤◌, max, ℤ, pos, negsuc, unsigned_abs, List, slice_get, Option, option_map, unwrap_or, Some, None, All, inl, inr, refl, sym, subst, arith}
+use Rattle.std.proofs.Common.{◌≡◌, ◌⊎◌, ℕ, ◌+◌, ◌*◌, ◌/◌, ◌^◌, ◌≤◌, max, ℤ, pos, negsuc, unsigned_abs, slice_get, Option, option_map, unwrap_or, Some, None, inl, inr, refl, sym, subst, arith}
 use Rattle.std.specs.Int.{int_max}
 use Rattle.std.proofs.lemmas.Int.{ints}
 use Rattle.std.proofs.lemmas.List.Elements.{All-contains}

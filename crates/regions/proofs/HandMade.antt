@@ -1,5 +1,5 @@
 -- A chip that is made by hand: two levels, and nets without pins.
-use Rattle.std.proofs.Common.{◌≡◌, ◌≢◌, ◌∙◌, ℕ, zero, suc, ◌+◌, ◌<◌, ◌≤◌, ◌^◌, ℤ, pos, ◌≤ℤ◌, ◌<ℤ◌, Bool, true, false, not, List, [], ◌∷◌, length, get_or, slice_get, Some, All, AllPairs, IsTrue, ◌↔◌, Contains, refl, sym, ap, subst, arith, lit<, lit≤}
+use Rattle.std.proofs.Common.{◌≡◌, ◌≢◌, ◌∙◌, ℕ, zero, suc, ◌≤◌, ◌^◌, ℤ, pos, ◌<ℤ◌, Bool, true, false, List, [], ◌∷◌, length, get_or, All, AllPairs, IsTrue, refl, sym, ap, subst, arith, lit<, lit≤}
 use Rattle.std.specs.Prelude.{codes}
 use Rattle.std.proofs.lemmas.Int.{ints}
 use Rattle.std.proofs.lemmas.List.Elements.{All-nil, All-cons}
@@ -13,14 +13,12 @@ use Rattle.rt_base.specs.declared.tech.Layer.{Layer}
 use Rattle.rt_base.specs.declared.tech.SpacingTable.{SpacingTable}
 use Rattle.rt_base.specs.declared.tech.Tech.{Tech}
 use Rattle.rt_base.specs.declared.tech.Via.{Via}
-use Rattle.rt_base.proofs.Lists.{Any-none}
 use Rattle.track_graph.specs.declared.design.Design.{Design}
 use Rattle.track_graph.specs.declared.design.Net.{Net}
-use Rattle.track_graph.specs.declared.design.Options.{Options}
 use Rattle.track_graph.specs.declared.design.Pin.{Pin}
 use Rattle.track_graph.specs.declared.design.Tracks.{Tracks}
-use Rattle.track_graph.specs.Designs.{IsTech, IsViaOf, AreTracks, IsGrid, IsFixed, IsPin, IsNet, Alternate, HasNames, IsDesign}
-use Rattle.track_graph.specs.Levels.{TrackSystem, levels, is_horizontal, track_system_of}
+use Rattle.track_graph.specs.Designs.{IsTech, IsViaOf, AreTracks, IsGrid, IsFixed, IsNet, Alternate, HasNames, IsDesign}
+use Rattle.track_graph.specs.Levels.{TrackSystem, track_system_of}
 
 pairs_none : {X : Type 0} → (R : X → X → Type 0) → AllPairs R []
 pairs_none R i j d lt within = absurd (omega (arith, within))

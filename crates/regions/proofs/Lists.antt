@@ -1,5 +1,5 @@
 -- What lists have when one item is added.
-use Rattle.std.proofs.Common.{◌≡◌, ◌⊎◌, ◌↔◌, ◌∙◌, ℕ, zero, suc, ◌+◌, ◌<◌, List, [], ◌∷◌, ◌++◌, length, get_or, take, All, AllPairs, Any, inl, inr, refl, sym, ap, subst, arith}
+use Rattle.std.proofs.Common.{◌≡◌, ◌⊎◌, ◌↔◌, ◌∙◌, ℕ, ◌+◌, ◌<◌, List, [], ◌∷◌, ◌++◌, length, get_or, take, All, AllPairs, Any, inl, inr, refl, sym, ap, subst, arith}
 use Rattle.std.specs.List.Sorted.{IsPermutation}
 use Rattle.rt_base.proofs.Lists.{Any-none, Any-cases, Any-there}
 use Rattle.std.proofs.lemmas.List.{take_more, get_or_push, get_or_append_left, length_push}

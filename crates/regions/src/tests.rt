@@ -5,7 +5,7 @@ ghost use Rattle.track_graph.specs.Designs.{IsNet, IsDesign};
 ghost use Rattle.track_graph.specs.Levels.{TrackSystem};
 
 use crate::{covered, halo, tiles_of};
-use rt_base::{Grid, Layer, Memory, Name, Point, Rect, Seq, Span, SpacingTable, Tech};
+use rt_base::{Grid, Layer, Memory, Name, Point, Rect, Seq, SpacingTable, Span, Tech};
 use std::alloc::Global;
 use std::test::Fail;
 use track_graph::{Design, Net, NetKind, Options, Tracks, level_layer};
@@ -106,6 +106,15 @@ fn chip(alloc: Global, first: &[Corners], second: &[Corners]) -> Result<Design, 
     })
 }
 
+/// The spans of a track line of a level in the guide of the first net.
+fn spans(alloc: Global, boxes: &[Corners], level: u8, line: i64) -> Result<Vec<Span>, Memory> {
+    let design = chip(alloc, boxes, &[])?;
+    match level_layer(&design.tech, level) {
+        Some(_) => covered(alloc, &design, 0, level, line),
+        None => Err(Memory),
+    }
+}
+
 fn span(lo: i64, hi: i64) -> Span {
     Span { lo, hi }
 }
@@ -164,9 +173,7 @@ fn spans_of_a_line(rt: HostRuntime) -> Result<(), Fail> {
         (&[], 0, 100, &[]),
     ];
     for (boxes, level, line, wanted) in rows {
-        let design = chip(rt.alloc(), boxes, &[])?;
-        assert!(rt; level_layer(&design.tech, level).is_some());
-        let found = covered(rt.alloc(), &design, 0, level, line)?;
+        let found = spans(rt.alloc(), boxes, level, line)?;
         assert_eq!(rt; found.as_slice(), wanted);
     }
     Ok(())
