@@ -42,7 +42,7 @@ use Rattle.build.specs.Built.{IsNetOf, IsTechOf, kind_of}
 use Rattle.build.specs.Inputs.{Input}
 use Rattle.build.specs.Refusals.{Gives}
 use Rattle.build.specs.Wires.{tech_said, wiring_tech}
-use Rattle.build.proofs.DesignLemmas.{AllZip-second}
+use Rattle.build.proofs.Zips.{AllZip-second}
 use Rattle.written.specs.Cuts.{Cut}
 use Rattle.written.specs.Words.{option_words}
 use Rattle.def_again.specs.Again.{IsClose, IsOption, IsAgain, IsNetAgain, range_words, range_behind}

@@ -36,7 +36,7 @@ use Rattle.wire_cover.proofs.GoodWalks.{net_strokes_good}
 use Rattle.wire_words.specs.Readable.{IsReadable, IsReadBy, is_path_word}
 use Rattle.wire_words.proofs.Readable.{readable_run, readable_via}
 use Rattle.wire_words.proofs.Levels.{level_layer}
-use Rattle.read_back.proofs.Technology.{usable_said}
+use Rattle.build.proofs.UsableVias.{usable_said}
 
 pub net_walks : (d : Design) (n : ℕ) (walks : List Walk) → All (IsWalkOf d n) walks → All (IsNetWalk d n) walks
 net_walks d n walks h = All-weaker (IsWalkOf d n) (IsNetWalk d n) (λ w of_net. of_net.net_walk) walks h
