@@ -12,7 +12,7 @@ use Rattle.track_graph.specs.declared.design.Design.{Design}
 use Rattle.track_graph.specs.declared.design.Net.{Net}
 use Rattle.track_graph.specs.declared.design.Options.{Options}
 use Rattle.track_graph.specs.declared.design.Tracks.{Tracks}
-use Rattle.track_graph.specs.Designs.{IsDesign, HasEntries}
+use Rattle.track_graph.specs.Designs.{IsDesign}
 use Rattle.track_graph.specs.Levels.{TrackSystem}
 use Rattle.pin_access.specs.EntryOrder.{system_of}
 use Rattle.def_text.specs.declared.def.Def.{Def}
@@ -22,36 +22,21 @@ use Rattle.build.specs.declared.error.BuildError.{BuildError}
 use Rattle.build.specs.declared.error.BuildError.TheVariants.{Memory as OutOfMemory}
 use Rattle.net_guides.specs.declared.index.NetGuides.{NetGuides}
 use Rattle.build.specs.declared.lookup.Lookup.{Lookup}
-use Rattle.build.specs.Built.{IsTechOf, IsNetOf, fixed_of, grid_of, skipped_of}
-use Rattle.build.specs.Faults.{name_fault, count_fault, size_fault}
+use Rattle.build.specs.Built.{IsNetOf, fixed_of, grid_of, skipped_of}
+use Rattle.build.specs.Faults.{size_fault}
 use Rattle.build.specs.Ground.{AreGrounds, IsBuiltNet}
-use Rattle.build.specs.Indexing.{IsLookup, IsGuideIndex}
-use Rattle.build.specs.Inputs.{Input, IsInput}
+use Rattle.build.specs.Inputs.{Input}
 use Rattle.build.specs.Lines.{IsLevel}
-use Rattle.build.specs.Metals.{IsOnLayer}
 use Rattle.build.specs.Refusals.{Parts, Gives, Refuses}
 use Rattle.build.specs.Refusals.Refuses.{by_size}
+use Rattle.build.specs.Standing.{Stands}
 use Rattle.build.specs.TrackLines.{line_count, largest_step, routing_layers}
-use Rattle.build.proofs.DesignLemmas.{tracks_of, entries_are, design_is}
-use Rattle.build.proofs.FirstFaults.{few_levels, counted}
+use Rattle.build.proofs.DesignLemmas.{tracks_of, design_is}
+use Rattle.build.proofs.FirstFaults.{few_levels, counted, few_tiles}
 use Rattle.cells.proofs.Lists.{AllZip-weaker}
-use Rattle.build.proofs.TechLemmas.{tech_is}
 use Rattle.build.proofs.WireLemmas.{fixed_are}
-use Rattle.build.proofs.TrackLemmas.{tracks_are}
+use Rattle.build.proofs.TrackLemmas.{tracks_are, lines_few}
 use Rattle.build.proofs.Uniqueness.{no_refusal, one_refusal, is_memory}
-
--- what the steps before have shown
-pub record Stands (i : Input) (options : Options) (known : Lookup) (index : NetGuides) (tech : Tech) : Type 0 where
-  pub is_input : IsInput i
-  pub via : options.via ≤ 2 ^ 20
-  pub least : pos 1 ≤ℤ options.tile
-  pub most : options.tile ≤ℤ pos (2 ^ 35)
-  pub known_is : IsLookup i.lef i.def known
-  pub index_is : IsGuideIndex i index
-  pub tech_of : IsTechOf i.lef tech
-  pub layers : All (IsOnLayer (length i.lef.layers)) (fixed_of i)
-  pub names : name_fault i ≡ None
-  pub counts : count_fault i tech ≡ None
 
 -- the tracks that are built
 pub record AreBuilt (def : Def) (tech : Tech) (tracks : Tracks) : Type 0 where
@@ -64,12 +49,12 @@ ground_is i options known index tech tracks s b =
     let count = counted i tech s.counts in
     let same = s.tech_of.layers in
     record {
-      is_input = s.is_input;
-      is_lookup = s.known_is;
-      is_index = s.index_is;
-      is_tech = tech_is i.lef tech s.is_input.is_lef s.tech_of few;
+      is_input = s.asked.is_input;
+      is_lookup = s.asked.known_is;
+      is_index = s.asked.index_is;
+      is_tech = s.is_tech;
       same_layers = same;
-      are_tracks = tracks_are tech i.def.tracks tracks s.is_input.is_def.tracks b.levels b.steps (subst (λ (ls : List Layer). All (λ (l : Layer). line_count l i.def.tracks ≤ 65536) (routing_layers ls)) (sym same) count.lines);
+      are_tracks = tracks_are tech i.def.tracks tracks s.asked.is_input.is_def.tracks b.levels b.steps (subst (λ (ls : List Layer). All (λ (l : Layer). line_count l i.def.tracks ≤ 65536) (routing_layers ls)) (sym same) count.lines);
       few_shapes = count.shapes;
       few_levels = subst (λ (ls : List Layer). length (routing_layers ls) ≤ 16) (sym same) few;
     }
@@ -110,15 +95,13 @@ assembled_gives i options known index d a =
 pub assembled_fits : (i : Input) (options : Options) (known : Lookup) (index : NetGuides) (d : Design) → IsAssembled i options known index d → IsDesign d
 assembled_fits i options known index d a =
     let g = ground_is i options known index d.tech d.tracks a.stands a.built in
-    design_is i options d a.stands.is_input.is_lef a.stands.is_input.is_def a.stands.tech_of g.is_tech g.are_tracks a.grid a.stands.via a.stands.least a.stands.most a.chosen
+    let count = counted i d.tech a.stands.counts in
+    let few : All (λ (l : Layer). line_count l i.def.tracks ≤ 65536) (routing_layers d.tech.layers) = subst (λ (ls : List Layer). All (λ (l : Layer). line_count l i.def.tracks ≤ 65536) (routing_layers ls)) (sym a.stands.tech_of.layers) count.lines in
+    design_is i options d a.stands.asked.is_input.is_lef a.stands.asked.is_input.is_def a.stands.tech_of a.stands.is_tech g.are_tracks
+    (lines_few d.tech i.def.tracks d.tracks a.built.levels few)
+    a.grid (few_tiles (grid_of i.def options) (fixed_of i) d.nets a.sizes) a.stands.asked.chosen.via a.stands.asked.chosen.least a.stands.asked.chosen.most a.chosen
     (subst (λ (die : Sides). AllZip (IsBuiltNet i (system_of d.tech d.tracks die)) i.def.nets d.nets) (ap (λ g. g.die) (sym a.grid)) a.nets) a.fixed
-    (fixed_are i d.tech a.stands.tech_of.layers a.stands.layers (counted i d.tech a.stands.counts).near)
-
-pub assembled_entries : (i : Input) (options : Options) (known : Lookup) (index : NetGuides) (d : Design) → IsAssembled i options known index d → HasEntries d
-assembled_entries i options known index d a =
-    entries_are i i.def.nets d
-    (subst (λ (die : Sides). AllZip (IsNetOf i (system_of d.tech d.tracks die)) i.def.nets d.nets) (ap (λ g. g.die) (sym a.grid))
-    (AllZip-weaker (IsBuiltNet i (system_of d.tech d.tracks i.def.die)) (IsNetOf i (system_of d.tech d.tracks i.def.die)) (λ s n h. h.is_net_of) i.def.nets d.nets a.nets))
+    (fixed_are i d.tech a.stands.tech_of.layers a.stands.layers count.near)
 
 -- exits
 pub refused : (i : Input) (options : Options) (r : Result Design BuildError) (x : BuildError) → IsErrAnd r (λ e. e ≡ x) → (x ≢ OutOfMemory → Refuses i options x) → IfErr r (λ e. e ≢ OutOfMemory → Refuses i options e)

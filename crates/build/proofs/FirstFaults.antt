@@ -148,3 +148,9 @@ counted i tech h =
       shapes = limit_none FixedShapes (length (fixed_of i)) 4194304 n.1.1.1.0;
       near = limit_none Coordinate (largest_coordinate (fixed_of i)) 1073741824 n.1.1.1.1.0;
     }
+
+-- what the fault of sizes rules out: too many tiles
+pub few_tiles : (grid : Grid) (fixed : List Shape) (nets : List Net) → size_fault grid fixed nets ≡ None → columns_of grid * rows_of grid ≤ 1048576
+few_tiles grid fixed nets h =
+    let n = none_all (limit_fault Entries (entry_count nets) 16777216 ∷ limit_fault Tiles (columns_of grid * rows_of grid) 1048576 ∷ limit_fault TileShapes (sum_by (λ (s : Shape). met_count grid s.rect) fixed) 16777216 ∷ []) h in
+    limit_none Tiles (columns_of grid * rows_of grid) 1048576 n.1.0

@@ -14,3 +14,5 @@ pub mod TrackLemmas
 pub mod Uniqueness
 pub mod WireLemmas
 pub mod GuideLemmas
+pub mod UsableVias
+pub mod Zips

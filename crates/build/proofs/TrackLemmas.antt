@@ -10,6 +10,7 @@ use Rattle.std.proofs.lemmas.List.{length-map}
 use Rattle.std.proofs.lemmas.List.Elements.{All-head, All-tail, All-map, Contains-get_or, Contains-push, Contains-push_cases, Contains-append_left}
 use Rattle.std.proofs.lemmas.List.Quantifiers.{Any-push}
 use Rattle.std.proofs.lemmas.List.Sums.{sum_by_push}
+use Rattle.rt_base.proofs.Lists.{Any-cases, Any-none, Any-here, Any-there}
 use Rattle.rt_base.specs.Ranges.{IsWithin}
 use Rattle.rt_base.proofs.Ranges.{sides_from_within, within_from_sides, within-max}
 use Rattle.rt_base.specs.declared.tech.Layer.{Layer}
@@ -69,11 +70,14 @@ pub tracks_are : (tech : Tech) (rows : List TrackRow) (tracks : Tracks) → All 
 tracks_are tech rows tracks ok lines steps few = record {
   line_levels = sym (AllZip-length (IsLevel rows) (routing_layers tech.layers) tracks.lines lines) ∙ sym (length-levels tech);
   step_levels = ap length steps ∙ length-map (routing_layers tech.layers) (largest_step rows) ∙ sym (length-levels tech);
-  line_counts = AllZip-all (IsLevel rows) (λ (l : Layer). line_count l rows ≤ 65536) (λ (zs : List ℤ). length zs ≤ 65536) (λ l zs h m. omega (arith, h.count, m)) (routing_layers tech.layers) tracks.lines lines few;
   ascending = AllZip-all (IsLevel rows) (λ (l : Layer). line_count l rows ≤ 65536) (λ (zs : List ℤ). AllPairs (λ a b. a <ℤ b) zs) (λ l zs h m. h.lines.ascending) (routing_layers tech.layers) tracks.lines lines few;
   lines = AllZip-all (IsLevel rows) (λ (l : Layer). line_count l rows ≤ 65536) (λ (zs : List ℤ). All (IsWithin (2 ^ 61)) zs) (λ l zs h m. lines_within rows l zs ok h.lines) (routing_layers tech.layers) tracks.lines lines few;
   steps = subst (λ (ss : List ℤ). All (IsWithin (2 ^ 32)) ss) (sym steps) (All-map (IsWithin (2 ^ 32)) (largest_step rows) (routing_layers tech.layers) (λ k d lt. step_within (get_or (routing_layers tech.layers) k d) rows (pos 0) (omega arith) ok));
 }
+
+-- each level has at most as many lines
+pub lines_few : (tech : Tech) (rows : List TrackRow) (tracks : Tracks) → AllZip (IsLevel rows) (routing_layers tech.layers) tracks.lines → All (λ (l : Layer). line_count l rows ≤ 65536) (routing_layers tech.layers) → All (λ (zs : List ℤ). length zs ≤ 65536) tracks.lines
+lines_few tech rows tracks lines few = AllZip-all (IsLevel rows) (λ (l : Layer). line_count l rows ≤ 65536) (λ (zs : List ℤ). length zs ≤ 65536) (λ l zs h m. omega (arith, h.count, m)) (routing_layers tech.layers) tracks.lines lines few
 
 -- the lines of a statement below this number
 abbrev pub UpTo : TrackRow → ℕ → ℤ → Type 0
@@ -117,19 +121,6 @@ upto_all before row n zs all h z = (λ m. to ((h z).0 m), λ m. (h z).1 (from m)
     from : Contains before z ⊎ HasLine row z → Contains before z ⊎ UpTo row n z
     from (inl b) = inl b
     from (inr l) = inr (l.k, omega (arith, l.below), l.at)
-
-Any-cases : {X : Type 0} → (P : X → Type 0) (x : X) (xs : List X) → Any P (x ∷ xs) → P x ⊎ Any P xs
-Any-cases P x xs (zero, y, lt, is, h) = inl (subst P (sym is) h)
-Any-cases P x xs (suc k, y, lt, is, h) = inr (k, y, omega arith, is, h)
-
-Any-none : {X : Type 0} → (P : X → Type 0) → Any P [] → ⊥
-Any-none P (k, y, lt, is, h) = omega arith
-
-Any-here : {X : Type 0} → (P : X → Type 0) (x : X) (xs : List X) → P x → Any P (x ∷ xs)
-Any-here P x xs h = (0, x, omega arith, refl, h)
-
-Any-there : {X : Type 0} → (P : X → Type 0) (x : X) (xs : List X) → Any P xs → Any P (x ∷ xs)
-Any-there P x xs (k, y, lt, is, h) = (suc k, y, omega arith, is, h)
 
 Any-push_cases : {X : Type 0} → (P : X → Type 0) (xs : List X) (x : X) → Any P (xs ++ x ∷ []) → Any P xs ⊎ P x
 Any-push_cases P [] x h = elim (Any-cases P x [] h) [ inl here ↦ inr here | inr none ↦ absurd (Any-none P none) ]

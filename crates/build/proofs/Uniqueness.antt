@@ -16,7 +16,7 @@ use Rattle.track_graph.specs.declared.design.Net.{Net}
 use Rattle.track_graph.specs.declared.design.Options.{Options}
 use Rattle.track_graph.specs.declared.design.Pin.{Pin}
 use Rattle.track_graph.specs.declared.design.Tracks.{Tracks}
-use Rattle.track_graph.specs.Designs.{IsUsable, IsCutBetween, IsOnVia}
+use Rattle.track_graph.specs.Designs.{IsUsable}
 use Rattle.track_graph.specs.Levels.{TrackSystem, routing_from, layer_no}
 use Rattle.track_graph.specs.Metal.{Metal}
 use Rattle.pin_access.specs.EntryOrder.{IsPointBefore, IsVertexBefore, IsEntryBefore, system_of}
@@ -24,7 +24,8 @@ use Rattle.lef_text.specs.declared.lef.Lef.{Lef}
 use Rattle.def_text.specs.declared.def.Def.{Def}
 use Rattle.def_text.specs.declared.def.DefNet.{DefNet}
 use Rattle.def_text.specs.declared.def.TrackRow.{TrackRow}
-use Rattle.build.specs.Built.{IsViaOfLef, IsTechOf, AreEntriesOf, IsPinOf, IsNetOf, fixed_of, grid_of}
+use Rattle.build.specs.Built.{IsViaSaid, IsTechOf, AreEntriesOf, IsPinOf, IsNetOf, fixed_of, grid_of}
+use Rattle.build.specs.Wires.{wiring_tech}
 use Rattle.build.specs.TrackLines.{AreTracksOf, AreLinesOf, routing_layers}
 use Rattle.build.specs.declared.error.BuildError.{BuildError}
 use Rattle.build.specs.declared.error.BuildError.TheVariants.{Scale, NoMacro, NoComponent, NoPin, NoLayer, NoNet, Wiring, PinTwice, NoTracks, Limit, Memory}
@@ -107,16 +108,9 @@ via_same : (v w : Via) → v.name ≡ w.name → v.usable ≡ w.usable → v.rec
 via_same v w a b c = λ i. record { name = a i; usable = b i; rects = c i }
 
 usable_same : (t u : Tech) (rects : _) → t.layers ≡ u.layers → IsUsable t rects → IsUsable u rects
-usable_same t u rects same h = record {
-  level = h.level;
-  upper_level = subst (λ ls. h.level + 1 < length (routing_from 0 ls)) same h.upper_level;
-  lower = subst (λ ls. Any (λ (r : Metal). r.0.0 ≡ layer_no (record { layers = ls; vias = t.vias }) h.level) rects) same h.lower;
-  upper = subst (λ ls. Any (λ (r : Metal). r.0.0 ≡ layer_no (record { layers = ls; vias = t.vias }) (h.level + 1)) rects) same h.upper;
-  cut = subst (λ ls. Any (λ (r : Metal). IsCutBetween (record { layers = ls; vias = t.vias }) h.level r.0) rects) same h.cut;
-  only = subst (λ ls. All (λ (r : Metal). IsOnVia (record { layers = ls; vias = t.vias }) h.level r.0) rects) same h.only;
-}
+usable_same t u rects same h = subst (λ ls. IsUsable (record { layers = ls; vias = u.vias }) rects) same h
 
-vias_unique : (t u : Tech) → t.layers ≡ u.layers → (said vs ws : List Via) → AllZip (IsViaOfLef t) said vs → AllZip (IsViaOfLef u) said ws → vs ≡ ws
+vias_unique : (t u : Tech) → t.layers ≡ u.layers → (said vs ws : List Via) → AllZip (IsViaSaid t) said vs → AllZip (IsViaSaid u) said ws → vs ≡ ws
 vias_unique t u same [] [] [] h k = refl
 vias_unique t u same [] [] (w ∷ ws) h k = absurd k
 vias_unique t u same [] (v ∷ vs) ws h k = absurd h
@@ -131,10 +125,10 @@ vias_unique t u same (s ∷ ss) (v ∷ vs) (w ∷ ws) h k =
     let more : vs ≡ ws = vias_unique t u same ss vs ws h.1 k.1 in
     (λ i. one i ∷ more i)
 
-pub tech_unique : (lef : Lef) (t u : Tech) → IsTechOf lef t → IsTechOf lef u → t ≡ u
-tech_unique lef t u h k =
+pub tech_unique : (i : Input) (t u : Tech) → IsTechOf i t → IsTechOf i u → t ≡ u
+tech_unique said t u h k =
     let layers : t.layers ≡ u.layers = h.layers ∙ sym k.layers in
-    let vias : t.vias ≡ u.vias = vias_unique t u layers lef.vias t.vias u.vias h.vias k.vias in
+    let vias : t.vias ≡ u.vias = vias_unique t u layers (wiring_tech said).vias t.vias u.vias h.vias k.vias in
     (λ i. record { layers = layers i; vias = vias i })
 
 -- the tracks of LEF and DEF are one
@@ -189,7 +183,7 @@ entry_count_unique i g (s ∷ ss) (m ∷ ms) (n ∷ ns) h k =
 -- the sizes of the design don't depend on how it is built
 sizes_same : (i : Input) (options : Options) (p q : Parts i) → size_fault (grid_of i.def options) (fixed_of i) p.nets ≡ size_fault (grid_of i.def options) (fixed_of i) q.nets
 sizes_same i options p q =
-    let te : q.tech ≡ p.tech = tech_unique i.lef q.tech p.tech q.tech_of p.tech_of in
+    let te : q.tech ≡ p.tech = tech_unique i q.tech p.tech q.tech_of p.tech_of in
     let tr : q.tracks ≡ p.tracks = tracks_unique i.lef i.def q.tracks p.tracks q.tracks_of p.tracks_of in
     let by_tech : AllZip (IsNetOf i (system_of p.tech q.tracks i.def.die)) i.def.nets q.nets =
     subst (λ (t : Tech). AllZip (IsNetOf i (system_of t q.tracks i.def.die)) i.def.nets q.nets) te q.nets_of in
@@ -197,8 +191,8 @@ sizes_same i options p q =
     subst (λ (t : Tracks). AllZip (IsNetOf i (system_of p.tech t i.def.die)) i.def.nets q.nets) tr by_tech in
     ap (size_by (grid_of i.def options) (fixed_of i)) (entry_count_unique i (system_of p.tech p.tracks i.def.die) i.def.nets p.nets q.nets p.nets_of by_tracks)
 
-counts_same : (i : Input) (t u : Tech) → IsTechOf i.lef t → IsTechOf i.lef u → count_fault i t ≡ count_fault i u
-counts_same i t u h k = ap (count_fault i) (tech_unique i.lef t u h k)
+counts_same : (i : Input) (t u : Tech) → IsTechOf i t → IsTechOf i u → count_fault i t ≡ count_fault i u
+counts_same i t u h k = ap (count_fault i) (tech_unique i t u h k)
 
 clash : {X : Type 0} → (o : Option X) (x : X) → o ≡ Some x → o ≡ None → ⊥
 clash o x h k = none-some x (sym k ∙ h)

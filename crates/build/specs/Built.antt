@@ -33,17 +33,18 @@ use Rattle.build.specs.declared.layer_names.LayerNames.{LayerNames}
 use Rattle.build.specs.Inputs.{Input}
 use Rattle.build.specs.LookUps.{layer_names_of, metals_of, connected_rects}
 use Rattle.build.specs.TrackLines.{AreTracksOf, routing_layers}
-use Rattle.build.specs.Wires.{special_shapes, wired_shapes}
+use Rattle.build.specs.Wires.{special_shapes, wired_shapes, wiring_tech}
 
--- a via of LEF; routing may use it where it is DEFAULT and its rectangles join two neighbouring levels
-pub record IsViaOfLef (tech : Tech) (said via : Via) : Type 0 where
+-- a via that LEF or DEF says; routing may use it where it is DEFAULT and its rectangles join two neighbouring levels
+pub record IsViaSaid (tech : Tech) (said via : Via) : Type 0 where
   pub name : via.name ≡ said.name
   pub rects : via.rects ≡ said.rects
   pub usable : IsTrue via.usable ↔ (IsTrue said.usable × IsUsable tech said.rects)
 
-pub record IsTechOf (lef : Lef) (tech : Tech) : Type 0 where
-  pub layers : tech.layers ≡ lef.layers
-  pub vias : AllZip (IsViaOfLef tech) lef.vias tech.vias
+-- LEF's layers, LEF's vias, and after them the vias of DEF, which are never DEFAULT
+pub record IsTechOf (i : Input) (tech : Tech) : Type 0 where
+  pub layers : tech.layers ≡ i.lef.layers
+  pub vias : AllZip (IsViaSaid tech) (wiring_tech i).vias tech.vias
 
 -- the shapes of rectangles of DEF
 abbrev pub shapes_on : LayerNames → Owner → List (List ℕ × Sides) → List Shape
@@ -112,7 +113,7 @@ grid_of def options = record { die = def.die; tile = options.tile }
 
 -- the design of an input and options
 pub record IsDesignOf (i : Input) (chosen : Options) (d : Design) : Type 0 where
-  pub tech : IsTechOf i.lef d.tech
+  pub tech : IsTechOf i d.tech
   pub tracks : AreTracksOf i.lef i.def d.tracks
   pub grid : d.grid ≡ grid_of i.def chosen
   pub nets : AllZip (IsNetOf i (system_of d.tech d.tracks i.def.die)) i.def.nets d.nets

@@ -10,7 +10,7 @@ pub mod Lines
 pub mod LookUps
 pub mod Metals
 pub mod Refusals
+pub mod Standing
 pub mod TrackLines
-pub mod Usable
 pub mod WireErrors
 pub mod Wires

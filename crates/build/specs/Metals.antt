@@ -28,6 +28,10 @@ pub record IsWireMetal (i : Input) (metal : WireMetal) : Type 0 where
   pub special_on : All (AreOn i) metal.special
   pub nets_on : All (AreOn i) metal.nets
 
+-- what wiring names, and the rectangles of the wiring that was read by it
+abbrev pub AreWires : Input → WireTech × WireMetal → Type 0
+AreWires i read = IsWireTech i read.0 × IsWireMetal i read.1
+
 -- the shapes of the wiring of the net with this number
 abbrev pub wire_shapes : ℕ × List Metal → List Shape
 wire_shapes m = fixed_shapes (OfNet m.0) m.1

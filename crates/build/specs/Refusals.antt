@@ -16,7 +16,7 @@ use Rattle.build.specs.Faults.{name_fault, count_fault, size_fault}
 -- what is built before sizes are looked at
 pub record Parts (i : Input) : Type 0 where
   pub tech : Tech
-  pub tech_of : IsTechOf i.lef tech
+  pub tech_of : IsTechOf i tech
   pub tracks : Tracks
   pub tracks_of : AreTracksOf i.lef i.def tracks
   pub nets : List Net
@@ -25,7 +25,7 @@ pub record Parts (i : Input) : Type 0 where
 -- a fault of units, names, tracks or layers, else one of the counts of the texts, else one of the sizes of the design
 pub data Refuses (i : Input) (options : Options) : BuildError → Type 0 where
   by_name : {e : BuildError} → name_fault i ≡ Some e → Refuses i options e
-  by_count : {e : BuildError} → name_fault i ≡ None → (tech : Tech) → IsTechOf i.lef tech → count_fault i tech ≡ Some e → Refuses i options e
+  by_count : {e : BuildError} → name_fault i ≡ None → (tech : Tech) → IsTechOf i tech → count_fault i tech ≡ Some e → Refuses i options e
   by_size : {e : BuildError} → name_fault i ≡ None → (p : Parts i) → count_fault i p.tech ≡ None → size_fault (grid_of i.def options) (fixed_of i) p.nets ≡ Some e → Refuses i options e
 
 -- nothing refuses this design

@@ -17,7 +17,7 @@ use Rattle.build.specs.LookUps.{net_names}
 abbrev pub tech_said : Lef → Tech
 tech_said lef = record { layers = lef.layers; vias = lef.vias }
 
--- what wiring names: LEF's layers and vias, and behind these the vias of DEF
+-- what wiring names: LEF's layers and vias, and after these the vias of DEF
 abbrev pub wiring_tech : Input → Tech
 wiring_tech i = wire_tech (tech_said i.lef) i.text i.tokens i.def.vias
 

@@ -11,7 +11,7 @@ ghost use Rattle.cells.specs.Firsts.{ArePlaces};
 ghost use Rattle.build.specs.LookUps.{has_component as has_component_of, has_pin as has_pin_of};
 ghost use Rattle.build.specs.Indexing.{IsLookup};
 ghost use Rattle.build.specs.Known.{IsKnown};
-ghost use Rattle.build.specs.Metals.{IsWireTech, IsWireMetal, AreOn};
+ghost use Rattle.build.specs.Metals.{IsWireTech, IsWireMetal, AreOn, AreWires};
 ghost use Rattle.build.specs.TrackLines.{is_used, routing_layers};
 ghost use Rattle.build.specs.Wires.{metal_of_net as metal_said};
 
@@ -382,15 +382,19 @@ fn check_levels_and_guides(alloc: Global, given: &Given, known: &Lookup) -> Resu
 }
 
 /// Units, names, wiring, layers without tracks and guides, and how many routing layers there are.
-/// Answers the rectangles of the wiring that was read.
-pub fn check_names(alloc: Global, given: &Given, known: &Lookup) -> Result<WireMetal, BuildError>
+/// Answers what wiring names, and the rectangles of the wiring that was read.
+pub fn check_names(
+    alloc: Global,
+    given: &Given,
+    known: &Lookup,
+) -> Result<(WireTech, WireMetal), BuildError>
     requires { IsKnown given.now known.now }
-    ensures { Finds (IsWireMetal (input_by given.now)) result (name_fault (input_by given.now)) }
+    ensures { Finds (AreWires (input_by given.now)) result (name_fault (input_by given.now)) }
 {
     check_units(alloc, given, known)?;
     let on = names_of_wires(alloc, given)?;
     check_placed(alloc, given, known)?;
     let metal = metal_of_wires(alloc, given, known, &on)?;
     check_levels_and_guides(alloc, given, known)?;
-    Ok(metal)
+    Ok((on, metal))
 }

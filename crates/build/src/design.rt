@@ -1,19 +1,17 @@
 //! The design.
-ghost use Rattle.std.specs.Prelude.{◌≡◌, ◌≢◌, ◌≤◌, ◌≤ℤ◌, ◌^◌, pos, All, length, IfOk, IfErr, IfSome, MatchResult, None};
+ghost use Rattle.std.specs.Prelude.{◌≡◌, ◌≢◌, ◌≤◌, ◌≤ℤ◌, ◌^◌, pos, length, IfOk, IfErr, IfSome, MatchResult};
 ghost use Rattle.std.specs.Option.{option_copied};
 ghost use Rattle.rt_base.specs.Tokens.{AllInside};
-ghost use Rattle.track_graph.specs.Designs.{IsDesign, HasEntries};
+ghost use Rattle.track_graph.specs.Designs.{IsDesign};
 ghost use Rattle.lef_text.specs.IsLef.{IsLef};
 ghost use Rattle.def_text.specs.Defs.{IsDef, AreRanges};
 ghost use Rattle.guide_text.specs.IsGuides.{AreGuides};
 ghost use Rattle.track_graph.specs.declared.design.Design.{Design as OfDesign};
 ghost use Rattle.build.specs.declared.error.BuildError.{BuildError as OfError};
-ghost use Rattle.build.specs.Built.{IsTechOf, fixed_of, skipped_of};
-ghost use Rattle.build.specs.Faults.{name_fault, count_fault};
-ghost use Rattle.build.specs.Indexing.{IsLookup, IsGuideIndex};
-ghost use Rattle.build.specs.Inputs.{IsInput, input_of, input_by};
-ghost use Rattle.build.specs.Metals.{IsOnLayer};
+ghost use Rattle.build.specs.Built.{fixed_of, skipped_of};
+ghost use Rattle.build.specs.Inputs.{input_of, input_by};
 ghost use Rattle.build.specs.Refusals.{Gives, Refuses};
+ghost use Rattle.build.specs.Standing.{IsAsked, Stands};
 ghost use Rattle.build.specs.declared.error.BuildError.TheVariants.{Memory as OutOfMemory};
 
 use crate::checks::check_names;
@@ -54,21 +52,11 @@ fn assembled(
     tech: Tech,
     shapes: Vec<Shape>,
 ) -> Result<Design, BuildError>
-    requires given { IsInput (input_by given.now) }
-    requires via { options.via ≤ 2 ^ 20 }
-    requires least_tile { pos 1 ≤ℤ options.tile }
-    requires most_tile { options.tile ≤ℤ pos (2 ^ 35) }
-    requires known { IsLookup given.now.lef.now given.now.def.now known.now }
-    requires index { IsGuideIndex (input_by given.now) index.now }
-    requires tech { IsTechOf given.now.lef.now tech }
+    requires stands { Stands (input_by given.now) options known.now index.now tech }
     requires shapes { shapes.items ≡ fixed_of (input_by given.now) }
-    requires layers { All (IsOnLayer (length given.now.lef.now.layers)) shapes.items }
-    requires names { name_fault (input_by given.now) ≡ None }
-    requires counts { count_fault (input_by given.now) tech ≡ None }
     ensures design { IfOk result (Gives (input_by given.now) options) }
     ensures refusal { IfErr result (λ e. e ≢ OutOfMemory → Refuses (input_by given.now) options e) }
     ensures fits { IfOk result IsDesign }
-    ensures entries { IfOk result HasEntries }
 {
     let tracks = tracks(alloc, tech.layers.as_slice(), given.def.tracks.as_slice())?;
     let on = Ground {
@@ -104,19 +92,13 @@ fn designed(
     known: &Lookup,
     index: &NetGuides,
 ) -> Result<Design, BuildError>
-    requires given { IsInput (input_by given.now) }
-    requires via { options.via ≤ 2 ^ 20 }
-    requires least_tile { pos 1 ≤ℤ options.tile }
-    requires most_tile { options.tile ≤ℤ pos (2 ^ 35) }
-    requires known { IsLookup given.now.lef.now given.now.def.now known.now }
-    requires index { IsGuideIndex (input_by given.now) index.now }
+    requires { IsAsked (input_by given.now) options known.now index.now }
     ensures design { IfOk result (Gives (input_by given.now) options) }
     ensures refusal { IfErr result (λ e. e ≢ OutOfMemory → Refuses (input_by given.now) options e) }
     ensures fits { IfOk result IsDesign }
-    ensures entries { IfOk result HasEntries }
 {
-    let metal = check_names(alloc, given, known)?;
-    let tech = technology(alloc, given.lef)?;
+    let (on, metal) = check_names(alloc, given, known)?;
+    let tech = technology(alloc, given.lef, on.tech.vias.as_slice())?;
     let shapes = fixed_shapes(alloc, given, known, &metal)?;
     check_counts(given, &tech, &shapes)?;
     assembled(alloc, given, options, known, index, tech, shapes)
@@ -126,7 +108,7 @@ fn designed(
 /// first reason why there is none: units, then names and wiring section by section, each in file
 /// order, then layers without tracks, then the guides' entries in file order, and then counts above
 /// their most. `text` is DEF's, with its tokens. Wiring means LEF's vias and DEF's, of which the last
-/// one of a name; routing uses LEF's alone. Without guides each net's guide is the die on every level.
+/// one of a name; both are the design's, and routing uses LEF's alone. Without guides each net's guide is the die on every level.
 /// Nets, pins and connections keep their order, and each net its name and the place of its closing
 /// `;`. Fixed shapes stand in the order of components, pins, blockages, special nets and nets.
 pub fn build(
@@ -157,7 +139,6 @@ pub fn build(
     ensures refuses { (e : OfError) → Refuses (input_of lef.now def.now text.now tokens.now (option_copied guides.entry)) options e → MatchResult result (λ d. ⊥) (λ f. f ≢ OutOfMemory → f ≡ e) }
 
     ensures fits { IfOk result IsDesign }
-    ensures entries { IfOk result HasEntries }
 {
     let known = look_ups(alloc, lef, def)?;
     let index = guide_index(alloc, lef.layers.as_slice(), guides)?;

@@ -2,12 +2,14 @@
 use Rattle.std.proofs.Common.{◌≡◌, ◌∙◌, ℕ, ◌+◌, ◌<◌, ◌≤◌, List, [], ◌∷◌, ◌++◌, false, Option, Some, ap, sym, subst, length, get_or, drop, unwrap_or, append_assoc, All, arith}
 use Rattle.std.specs.Prelude.{flat_map, slice_range}
 use Rattle.std.proofs.lemmas.List.{drop_more, get_or_default}
+use Rattle.std.proofs.lemmas.List.Elements.{All-weaker}
 use Rattle.std.proofs.lemmas.Option.{slice_get-get_or}
 use Rattle.track_graph.specs.declared.design.Design.{Design}
 use Rattle.track_graph.specs.declared.design.Net.{Net}
 use Rattle.track_graph.specs.declared.history.NetState.{NetState}
 use Rattle.track_graph.specs.declared.history.State.{State}
-use Rattle.track_graph.specs.NetWalks.{IsNetWalk, IsRouted}
+use Rattle.track_graph.specs.Conditions.{IsStateOf}
+use Rattle.track_graph.specs.NetWalks.{IsNetWalk, IsWalkOf}
 use Rattle.track_graph.specs.States.{net_state}
 use Rattle.track_graph.specs.Strokes.{walk_strokes}
 use Rattle.def_out.specs.Conditions.{AreCloses}
@@ -43,5 +45,6 @@ close_within text nets h i net is within =
     subst (λ (m : Net). m.close < length text) (sym is) there
 
 -- the walks of a net that stand are walks of it
-pub walks_stand : (d : Design) (s : State) → IsRouted d s → (i : ℕ) (x : NetState) → net_state s i ≡ x → All (IsNetWalk d i) x.walks
-walks_stand d s h i x is = subst (λ (y : NetState). All (IsNetWalk d i) y.walks) is (h.walks i)
+pub walks_stand : (d : Design) (s : State) → IsStateOf d s → (i : ℕ) (x : NetState) → net_state s i ≡ x → All (IsNetWalk d i) x.walks
+walks_stand d s h i x is =
+    All-weaker (IsWalkOf d i) (IsNetWalk d i) (λ w of_net. of_net.net_walk) x.walks (subst (λ (y : NetState). All (IsWalkOf d i) y.walks) is (h.walks i))

@@ -2,8 +2,9 @@
 #![tactic(auto)]
 
 ghost use Rattle.std.specs.Prelude.{◌≡◌, ◌++◌, ◌∷◌, ◌<◌, flat_map, length, All, IfOk, OnOk};
+ghost use Rattle.track_graph.specs.Conditions.{IsStateOf};
 ghost use Rattle.track_graph.specs.Designs.{IsDesign};
-ghost use Rattle.track_graph.specs.NetWalks.{IsNetWalk, IsRouted};
+ghost use Rattle.track_graph.specs.NetWalks.{IsNetWalk};
 ghost use Rattle.track_graph.specs.Strokes.{walk_strokes};
 ghost use Rattle.def_out.specs.Conditions.{AreCloses};
 ghost use Rattle.def_out.specs.Wiring.{run_text, via_text, stroke_text, further_text, wiring_text, routed_def};
@@ -132,7 +133,7 @@ pub fn write_def(
     state: &State,
 ) -> Result<Vec<u8>, Memory>
     requires design { IsDesign design.now }
-    requires routed { IsRouted design.now state.now }
+    requires state { IsStateOf design.now state.now }
     requires closes { AreCloses text.now design.now.nets }
     ensures { IfOk result (λ out. out.items ≡ routed_def text.now design.now state.now) }
 {

@@ -5,7 +5,7 @@ use Rattle.rt_base.specs.Ranges.{AreSidesWithin}
 use Rattle.def_text.specs.declared.def.Def.{Def}
 use Rattle.def_text.specs.declared.statements.Parsed.{Parsed}
 use Rattle.def_text.specs.Defs.{IsDef, AreRanges}
-use Rattle.def_text.specs.Texts.{IsParsed, or_none}
+use Rattle.def_text.specs.Texts.{IsParsed, or_none, AreNetsNamed}
 
 -- what a text says
 abbrev pub said : Parsed → ℕ → Sides → Def
@@ -22,8 +22,8 @@ said s units sides = record {
   skipped = s.skipped;
 }
 
-pub finished_sound : (s : Parsed) (units : ℕ) (sides : Sides) → IsParsed s → ((1 ≤ units) × (units ≤ 1000000)) → AreSidesWithin (2 ^ 30) sides → IsDef (said s units sides)
-finished_sound s units sides h u e = record {
+pub finished_sound : (s : Parsed) (units : ℕ) (sides : Sides) → IsParsed s → ((1 ≤ units) × (units ≤ 1000000)) → AreSidesWithin (2 ^ 30) sides → AreNetsNamed (said s units sides) → IsDef (said s units sides)
+finished_sound s units sides h u e named = record {
   units = u;
   die = e;
   tracks = h.tracks;
@@ -35,9 +35,9 @@ finished_sound s units sides h u e = record {
   pin_names = h.pin_names;
   pin_count = h.pin_count;
   blockages = h.blockages;
-  special = λ k d lt. (h.special k d lt).net;
+  special = λ k d lt. let n = h.special k d lt in record { name = named.special k d lt; pins = n.pins; pin_count = n.pin_count };
   special_names = h.special_names;
-  nets = λ k d lt. (h.nets k d lt).net;
+  nets = λ k d lt. let n = h.nets k d lt in record { name = named.nets k d lt; pins = n.pins; pin_count = n.pin_count };
   net_names = h.net_names;
   net_count = h.net_count;
 }

@@ -8,6 +8,8 @@ pub mod Grammar
 pub mod Closes
 pub mod Staying
 pub mod NetCloses
+pub mod Named
+pub mod NetNames
 pub mod Readers
 pub mod UnitsFirst
 pub mod Finishing

@@ -6,7 +6,7 @@ use Rattle.std.proofs.lemmas.List.{map-append, take_more}
 use Rattle.std.proofs.lemmas.List.Elements.{All-append, All-cons}
 use Rattle.std.proofs.lemmas.List.Quantifiers.{all_pairs_push}
 use Rattle.rt_words.proofs.Words.{differ}
-use Rattle.def_text.specs.Defs.{IsName, IsRange}
+use Rattle.def_text.specs.Defs.{IsRange}
 use Rattle.def_text.specs.Wiring.{IsNetOf}
 use Rattle.def_text.specs.declared.sections.Listed.{Listed}
 use Rattle.def_text.specs.Sections.{AreListed}
@@ -47,9 +47,10 @@ mapped_more {A} {B} f before rects new metal i m x h r e g lt =
     ∙ ap (λ (v : List B). before ++ v) (ap (λ (v : B). map f (take i metal) ++ v ∷ []) (e ∙ ap f g) ∙ sym (map-append f (take i metal) (get_or metal i m ∷ [])) ∙ ap (map f) (sym (take_more metal i m lt)))
 
 -- a net without connections
-pub net_without_pins : (total : ℕ) (name : List ℕ) (pins : List (List ℕ × List ℕ)) (wiring : List (ℕ × ℕ)) (close : ℕ) → IsName name → pins ≡ [] → All (IsRange total) wiring → IsNetOf total (record { name = name; pins = pins; wiring = wiring; close = close })
-net_without_pins total name pins wiring close named none ranges = record {
-  net = record { name = named; pins = rw none (λ k d lt. absurd (omega arith)); pin_count = rw none (lit< tt) };
+pub net_without_pins : (total : ℕ) (name : List ℕ) (pins : List (List ℕ × List ℕ)) (wiring : List (ℕ × ℕ)) (close : ℕ) → pins ≡ [] → All (IsRange total) wiring → IsNetOf total (record { name = name; pins = pins; wiring = wiring; close = close })
+net_without_pins total name pins wiring close none ranges = record {
+  pins = rw none (λ k d lt. absurd (omega arith));
+  pin_count = rw none (lit< tt);
   wiring = ranges;
 }
 

@@ -21,7 +21,7 @@ use Rattle.def_text.specs.Parts.{a_count, once, here}
 use Rattle.def_text.specs.Nets.{joined_by_must, connections, net_option, more_net, net_item}
 use Rattle.def_text.specs.Texts.{nothing_read, or_none, units_statement, nets_section, statement, finished_of, finished, a_def, def_form}
 use Rattle.def_text.proofs.Listing.{All-one}
-use Rattle.def_text.proofs.Staying.{Stays, step, statement_stays}
+use Rattle.def_text.proofs.Staying.{Stays, step, special_stays, statement_stays}
 use Rattle.def_text.proofs.Closes.{AreFrom, Ascend, cut_ascends, from_rest, ascend_rest, Leads, Lasts, ByTurn, leads_bind, leads_any, leads_check, leads_done, leads_not, leads_choose, leads_loop}
 
 -- nets that are closed before these words
@@ -142,12 +142,16 @@ nets_leads size w s =
     (pre _ (Read size s) _ _ (λ ws p. begins_closed size s (record { names = []; items = []; skipped = s.skipped }) ws refl p) (leads_loop (ClosedBefore size) (ClosedBefore size) (more_items (codes "NETS") said (net_item s.total)) (more_nets_leads size s.total said) (record { names = []; items = []; skipped = s.skipped })))
     (λ l. leads_done _ (More (record s { nets = Some l.items; skipped = l.skipped })) _ (λ ws p. record { closes = record { ascending = p.ascending; within = p.within }; words = p.words }))))
 
+read_same : (size : ℕ) (s t : Parsed) (ws : List Lexeme) → t.nets ≡ s.nets → Read size s ws → Read size t ws
+read_same size s t ws nets p = record { closes = subst (λ (v : Option (List DefNet)). AreCloses size (or_none v)) (sym nets) p.closes; words = p.words }
+
 read_stays : (size : ℕ) → Stays (Read size)
 read_stays size = record {
   lasts = read_lasts size;
-  same = λ s t ws units nets p. record { closes = subst (λ (v : Option (List DefNet)). AreCloses size (or_none v)) (sym nets) p.closes; words = p.words };
+  same = λ s t ws units nets special p. read_same size s t ws nets p;
   units = units_leads size;
   nets = nets_leads size;
+  special = special_stays (Read size) (read_lasts size) (λ s t ws units nets p. read_same size s t ws nets p);
 }
 
 -- ---- texts

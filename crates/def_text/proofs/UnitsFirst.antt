@@ -18,7 +18,7 @@ use Rattle.def_text.specs.Sections.{said_count, more_items}
 use Rattle.def_text.specs.Nets.{net_item}
 use Rattle.def_text.specs.Texts.{nothing_read, units_statement, nets_section, statement, finished_of, finished, a_def, def_form, stop_where, stop_at_units, until_units, units_form, units_or_missing}
 use Rattle.def_text.proofs.Closes.{Leads, Lasts, ByTurn, leads_bind, leads_check, leads_done}
-use Rattle.def_text.proofs.Staying.{step, statement_stays}
+use Rattle.def_text.proofs.Staying.{step, statement_stays, special_stays}
 use Rattle.def_text.proofs.Grammar.{lawful_def, lawful_units, lawful_statement}
 
 -- ---- units that stand stay
@@ -49,7 +49,7 @@ nets_keep n w s =
     leads_done (Has n s) (More (record s { nets = Some l.items; skipped = l.skipped })) (Keeps n) (λ ws p. p))))
 
 statement_keeps : (n : ℕ) (s : Parsed) → Leads (Has n s) (statement s) (Keeps n)
-statement_keeps n s = statement_stays (Has n) (record { lasts = has_lasts n; same = λ s t ws units nets p. units ∙ p; units = units_keeps n; nets = nets_keep n }) s
+statement_keeps n s = statement_stays (Has n) (record { lasts = has_lasts n; same = λ s t ws units nets special p. units ∙ p; units = units_keeps n; nets = nets_keep n; special = special_stays (Has n) (has_lasts n) (λ s t ws units nets p. units ∙ p) }) s
 
 turns_keep : (n fuel : ℕ) (s t : Parsed) (ws rest : List Lexeme) → s.units ≡ Some n → turns def_faults statement fuel s ws ≡ Ok (t, rest) → t.units ≡ Some n
 unfolding turns

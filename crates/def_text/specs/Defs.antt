@@ -1,5 +1,6 @@
 -- What holds of everything that is read from a DEF text: its numbers are in range, its names are names, and no two items of a section have one name.
 use Rattle.std.specs.Prelude.{◌≡◌, ◌≢◌, ℕ, ◌≤◌, ◌<◌, ◌^◌, pos, ◌≤ℤ◌, true, List, length, All, AllPairs, IfSome}
+use Rattle.rt_base.specs.Names.{IsName}
 use Rattle.rt_base.specs.Sides.{Sides}
 use Rattle.rt_base.specs.Ranges.{IsWithin, IsPointWithin, AreSidesWithin}
 use Rattle.rt_base.specs.declared.geometry.Point.{Point}
@@ -12,9 +13,9 @@ use Rattle.def_text.specs.declared.def.Component.{Component}
 use Rattle.def_text.specs.declared.def.IoPin.{IoPin}
 use Rattle.def_text.specs.declared.def.DefNet.{DefNet}
 
--- a name: not quoted, and none of the signs
-abbrev pub IsName : List ℕ → Type 0
-IsName name = is_name_word name ≡ true
+-- a word that isn't quoted, and none of the signs
+abbrev pub IsNameWord : List ℕ → Type 0
+IsNameWord name = is_name_word name ≡ true
 
 -- a layer's name with a rectangle
 abbrev pub Metal : Type 0
@@ -22,7 +23,7 @@ Metal = List ℕ × Sides
 
 -- a rectangle of a placed pin
 abbrev pub IsMetal : Metal → Type 0
-IsMetal m = IsName m.0 × AreSidesWithin (2 ^ 31) m.1
+IsMetal m = IsNameWord m.0 × AreSidesWithin (2 ^ 31) m.1
 
 pub record IsTrackRow (t : TrackRow) : Type 0 where
   pub first : IsWithin (2 ^ 30) t.first
@@ -30,20 +31,20 @@ pub record IsTrackRow (t : TrackRow) : Type 0 where
   pub count : t.count ≤ 2 ^ 30
   pub ahead : pos 1 ≤ℤ t.step
   pub step : t.step ≤ℤ pos (2 ^ 30)
-  pub layers : IfSome t.layers (λ layers. All IsName layers)
+  pub layers : IfSome t.layers (λ layers. All IsNameWord layers)
 
 pub record IsComponent (c : Component) : Type 0 where
-  pub name : IsName c.name
-  pub of_macro : IsName c.of
+  pub name : IsNameWord c.name
+  pub of_macro : IsNameWord c.of
   pub placed : IfSome c.placed (λ (p : Point × Orient). IsPointWithin (2 ^ 30) p.0)
 
 pub record IsIoPin (p : IoPin) : Type 0 where
-  pub name : IsName p.name
+  pub name : IsNameWord p.name
   pub rects : All IsMetal p.rects
 
 -- component and pin
 abbrev pub IsConnection : (List ℕ × List ℕ) → Type 0
-IsConnection c = IsName c.0 × IsName c.1
+IsConnection c = IsNameWord c.0 × IsNameWord c.1
 
 pub record IsDefNet (n : DefNet) : Type 0 where
   pub name : IsName n.name
@@ -62,7 +63,7 @@ pub record IsDef (d : Def) : Type 0 where
   pub units : (1 ≤ d.units) × (d.units ≤ 1000000)
   pub die : AreSidesWithin (2 ^ 30) d.die
   pub tracks : All IsTrackRow d.tracks
-  pub vias : All (λ (v : DefVia). IsName v.name) d.vias
+  pub vias : All (λ (v : DefVia). IsNameWord v.name) d.vias
   pub via_names : AreNamedApart (λ (v : DefVia). v.name) d.vias
   pub components : All IsComponent d.components
   pub component_names : AreNamedApart (λ (c : Component). c.name) d.components

@@ -16,7 +16,7 @@ use Rattle.def_text.specs.declared.kinds.BehindLayer.TheVariants.{Rule, Mask, Po
 use Rattle.def_text.specs.declared.def.IoPin.{IoPin}
 use Rattle.def_text.specs.declared.pins.Ports.{Ports}
 use Rattle.def_text.specs.declared.sections.Listed.{Listed}
-use Rattle.def_text.specs.Defs.{Metal, IsName, IsMetal}
+use Rattle.def_text.specs.Defs.{Metal, IsNameWord, IsMetal}
 use Rattle.def_text.specs.Kinds.{pin_option_of, behind_layer}
 use Rattle.def_text.specs.Parts.{a_number, point, placement}
 use Rattle.def_text.specs.Sections.{new_name}
@@ -32,7 +32,7 @@ placed_port (Some p) metal = map (placed_metal p.0 p.1) metal
 
 -- a rectangle before its port is placed
 abbrev pub IsUnplaced : Metal → Type 0
-IsUnplaced m = IsName m.0 × AreSidesWithin (2 ^ 30) m.1
+IsUnplaced m = IsNameWord m.0 × AreSidesWithin (2 ^ 30) m.1
 
 pub record ArePorts (ports : Ports) : Type 0 where
   pub rects : All IsMetal ports.rects

@@ -1,5 +1,6 @@
 -- A DEF text: statements and sections in any order, ended by END DESIGN (DEF 5.8, Order of DEF Statements; that any order is admitted is this project's choice).
 use Rattle.def_text.specs.Blockages.{more_blockages}
+use Rattle.rt_base.specs.Names.{IsName}
 use Rattle.rt_base.specs.Sides.{Sides}
 use Rattle.std.specs.Prelude.{ℕ, List, [], ◌∷◌, ◌++◌, Result, Ok, Err, Option, Some, None, codes, ◌^◌, ◌≤◌, ◌<◌, length, All, IfSome}
 use Rattle.rt_forms.specs.Lexeme.{Place}
@@ -170,6 +171,11 @@ finished_of (Some units) (Some sides) s = Ok (record {
 
 abbrev pub finished : Parsed → Result Def DefError
 finished s = finished_of s.units s.die s
+
+-- each net and each special net has a name
+pub record AreNetsNamed (d : Def) : Type 0 where
+  pub special : All (λ (n : DefNet). IsName n.name) d.special
+  pub nets : All (λ (n : DefNet). IsName n.name) d.nets
 
 -- ---- the whole text
 

@@ -5,7 +5,7 @@ use Rattle.rt_forms.specs.Reading.{a_name, rest}
 use Rattle.def_text.specs.declared.error.DefError.{DefError}
 use Rattle.def_text.specs.declared.def.DefVia.{DefVia}
 use Rattle.def_text.specs.declared.sections.Listed.{Listed}
-use Rattle.def_text.specs.Defs.{IsName, IsRange}
+use Rattle.def_text.specs.Defs.{IsNameWord, IsRange}
 use Rattle.def_text.specs.Parts.{here}
 use Rattle.def_text.specs.Sections.{new_name}
 
@@ -21,5 +21,5 @@ via_item total listed = do
 
 -- a via that was read
 pub record IsDefVia (total : ℕ) (v : DefVia) : Type 0 where
-  pub name : IsName v.name
+  pub name : IsNameWord v.name
   pub tokens : IsRange total v.tokens

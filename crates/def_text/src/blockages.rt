@@ -6,7 +6,7 @@ ghost use Rattle.rt_forms.specs.Lexeme.{first_of};
 ghost use Rattle.rt_forms.specs.Reading.{or_end};
 ghost use Rattle.rt_forms.specs.Word.{place_of};
 ghost use Rattle.def_text.specs.Faults.{def_faults};
-ghost use Rattle.def_text.specs.Defs.{IsName, IsMetal};
+ghost use Rattle.def_text.specs.Defs.{IsNameWord, IsMetal};
 ghost use Rattle.def_text.specs.Blockages.{blockage_option_of as blockage_option_kind, ends_mark as ends_mark_test, skip_word as skip_word_form, mark_rest as mark_rest_form, mark_by, more_marks as more_marks_form, no_mark, blockage_polygon as blockage_polygon_form, blockage_shape as blockage_shape_form, more_shapes as more_shapes_form, blockage_shapes as blockage_shapes_form, blockage_layer as blockage_layer_form, blockage_item as blockage_item_form, more_blockages as more_blockages_form};
 
 use crate::error::DefError;
@@ -139,7 +139,7 @@ fn blockage_polygon(
     word: Word,
     metal: &mut Seq<(Name, Rect)>,
 ) -> Result<(), DefError>
-    requires layer { IsName layer.now }
+    requires layer { IsNameWord layer.now }
     requires metal { All IsMetal metal.old }
     ensures reads { Reads def_faults (λ _. metal.new) result words.old words.new (blockage_polygon_form layer.now dropped (place_of word.entry) metal.old) }
     ensures sound { OnOk result (All IsMetal metal.new) }
@@ -159,7 +159,7 @@ fn blockage_shape(
     word: Word,
     metal: &mut Seq<(Name, Rect)>,
 ) -> Result<(), DefError>
-    requires layer { IsName layer.now }
+    requires layer { IsNameWord layer.now }
     requires metal { All IsMetal metal.old }
     ensures reads { Looks def_faults (λ _. metal.new) result words.old words.new (blockage_shape_form layer.now dropped (place_of word.entry) metal.old) }
     ensures sound { OnOk result (All IsMetal metal.new) }
@@ -187,7 +187,7 @@ fn more_shapes(
     dropped: bool,
     metal: &mut Seq<(Name, Rect)>,
 ) -> Result<bool, DefError>
-    requires layer { IsName layer.now }
+    requires layer { IsNameWord layer.now }
     requires metal { All IsMetal metal.old }
     ensures reads { Reads def_faults (λ last. turn last metal.new) result words.old words.new (more_shapes_form layer.now dropped metal.old) }
     ensures sound { OnOk result (All IsMetal metal.new) }
@@ -208,7 +208,7 @@ fn further_shapes(
     dropped: bool,
     metal: &mut Seq<(Name, Rect)>,
 ) -> Result<(), DefError>
-    requires layer { IsName layer.now }
+    requires layer { IsNameWord layer.now }
     requires metal { All IsMetal metal.old }
     ensures reads { Reads def_faults (λ _. metal.new) result words.old words.new (loop (more_shapes_form layer.now dropped) metal.old) }
     ensures sound { OnOk result (All IsMetal metal.new) }
@@ -226,7 +226,7 @@ fn blockage_shapes(
     dropped: bool,
     metal: &mut Seq<(Name, Rect)>,
 ) -> Result<(), DefError>
-    requires layer { IsName layer.now }
+    requires layer { IsNameWord layer.now }
     requires metal { All IsMetal metal.old }
     ensures reads { Reads def_faults (λ _. metal.new) result words.old words.new (blockage_shapes_form layer.now dropped metal.old) }
     ensures sound { OnOk result (All IsMetal metal.new) }

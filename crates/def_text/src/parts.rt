@@ -8,7 +8,7 @@ ghost use Rattle.rt_forms.specs.Lexeme.{first_of};
 ghost use Rattle.rt_forms.specs.Word.{place_of};
 ghost use Rattle.rt_words.specs.Reading.{integer_of};
 ghost use Rattle.def_text.specs.Faults.{def_faults};
-ghost use Rattle.def_text.specs.Defs.{IsName};
+ghost use Rattle.def_text.specs.Defs.{IsNameWord};
 ghost use Rattle.def_text.specs.Parts.{a_number, a_count, within as within_of, point as point_form, orient_of, placement as placement_form, once as once_of};
 ghost use Rattle.def_text.specs.declared.error.DefError.TheVariants.{Refused as RefusedAt};
 
@@ -157,7 +157,7 @@ pub fn option_tail(words: &mut Words) -> bool
 /// A name.
 pub fn name<'a>(words: &mut Words<'a>) -> Result<Word<'a>, DefError>
     ensures reads { Reads def_faults place_of result words.old words.new a_name }
-    ensures name { IfOk result (λ w. IsName w.bytes.now) }
+    ensures name { IfOk result (λ w. IsNameWord w.bytes.now) }
 {
     let word = words.next()?;
     if !word.is_name() {

@@ -7,7 +7,7 @@ ghost use Rattle.rt_forms.specs.Clauses.{Reads, Looks, Gives};
 ghost use Rattle.rt_forms.specs.Form.{More, loop, unless};
 ghost use Rattle.rt_forms.specs.Word.{place_of};
 ghost use Rattle.def_text.specs.Faults.{def_faults};
-ghost use Rattle.def_text.specs.Defs.{IsName, IsMetal};
+ghost use Rattle.def_text.specs.Defs.{IsNameWord, IsMetal};
 ghost use Rattle.def_text.specs.Parts.{no_bracket};
 ghost use Rattle.def_text.specs.Blockages.{kept};
 ghost use Rattle.def_text.specs.Polygons.{more_points as more_points_form, four_points as four_points_form, polygon_points as polygon_points_form, a_word_is_left as a_word_is_left_form, rectilinear as rectilinear_of, polygon as polygon_form};
@@ -106,7 +106,7 @@ fn add_rects(
     rects: &[Rect],
     metal: &mut Seq<(Name, Rect)>,
 ) -> Result<(), DefError>
-    requires layer { IsName layer.now }
+    requires layer { IsNameWord layer.now }
     requires rects { All (AreSidesWithin (2 ^ 30)) rects.now }
     requires metal { All IsMetal metal.old }
     ensures value { OnOk result (metal.new ≡ metal.old ++ map (λ (sides : Sides). (layer.now, sides)) rects.now) }
@@ -127,7 +127,7 @@ pub fn add_polygon(
     points: &[Point],
     metal: &mut Seq<(Name, Rect)>,
 ) -> Result<(), DefError>
-    requires layer { IsName layer.now }
+    requires layer { IsNameWord layer.now }
     requires points { All (IsPointWithin (2 ^ 30)) points.now }
     requires metal { All IsMetal metal.old }
     ensures value { OnOk result (metal.new ≡ metal.old ++ kept dropped (map (λ (sides : Sides). (layer.now, sides)) (slabs_of points.now))) }

@@ -8,7 +8,7 @@ ghost use Rattle.rt_forms.specs.Reading.{left_of};
 ghost use Rattle.def_text.specs.declared.error.DefError.TheVariants.{Scan};
 ghost use Rattle.def_text.specs.Faults.{def_faults};
 ghost use Rattle.def_text.specs.Defs.{IsDef, AreRanges, AreCloses};
-ghost use Rattle.def_text.specs.Texts.{IsParsed, statement as statement_form, until_units as until_units_form, nothing_read, a_def as a_def_form, def_form, units_form};
+ghost use Rattle.def_text.specs.Texts.{IsParsed, statement as statement_form, until_units as until_units_form, nothing_read, a_def as a_def_form, def_form, units_form, AreNetsNamed};
 ghost use Rattle.def_text.specs.Clauses.{ReadsBeginning};
 
 use crate::def::Def;
@@ -56,7 +56,7 @@ fn a_def(alloc: Global, words: &mut Words, total: u32) -> Result<Def, DefError>
     requires few { length words.old ≤ 2 ^ 32 }
     requires total { left_of words.old ≡ total }
     ensures reads { Reads def_faults (λ x. x) result words.old words.new a_def_form }
-    ensures sound { IfOk result (λ d. IsDef d) }
+    ensures sound { IfOk result (λ d. AreNetsNamed d → IsDef d) }
     ensures ranges { IfOk result (λ d. AreRanges total d) }
 {
     let mut parsed = nothing_read(alloc, total);
@@ -69,7 +69,7 @@ fn whole_def(alloc: Global, words: &mut Words, total: u32) -> Result<Def, DefErr
     requires few { length words.old ≤ 2 ^ 32 }
     requires total { left_of words.old ≡ total }
     ensures reads { Looks def_faults (λ x. x) result words.old words.new def_form }
-    ensures sound { IfOk result (λ d. IsDef d) }
+    ensures sound { IfOk result (λ d. AreNetsNamed d → IsDef d) }
     ensures ranges { IfOk result (λ d. AreRanges total d) }
 {
     let def = a_def(alloc, words, total)?;

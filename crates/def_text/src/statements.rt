@@ -5,7 +5,7 @@ ghost use Rattle.rt_forms.specs.Form.{More, turn, loop};
 ghost use Rattle.rt_forms.specs.Word.{place_of};
 ghost use Rattle.def_text.specs.Faults.{def_faults};
 ghost use Rattle.def_text.specs.Defs.{IsDef, AreRanges};
-ghost use Rattle.def_text.specs.Texts.{IsParsed, units_statement as units_statement_form, die_statement as die_statement_form, tracks_statement as tracks_statement_form, vias_section as vias_section_form, components_section as components_section_form, pins_section as pins_section_form, blockages_section as blockages_section_form, special_section as special_section_form, nets_section as nets_section_form, statement as statement_form, or_none as or_none_of, finished as finished_of};
+ghost use Rattle.def_text.specs.Texts.{IsParsed, units_statement as units_statement_form, die_statement as die_statement_form, tracks_statement as tracks_statement_form, vias_section as vias_section_form, components_section as components_section_form, pins_section as pins_section_form, blockages_section as blockages_section_form, special_section as special_section_form, nets_section as nets_section_form, statement as statement_form, or_none as or_none_of, finished as finished_of, AreNetsNamed};
 
 use crate::blockages::{Blocked, blockages};
 use crate::components::components;
@@ -341,7 +341,7 @@ fn or_none<T: Drop>(alloc: Global, items: Option<Seq<T>>) -> Seq<T>
 pub fn finished(alloc: Global, parsed: Parsed) -> Result<Def, DefError>
     requires { IsParsed parsed }
     ensures gives { Gives def_faults (λ x. x) result (finished_of parsed) }
-    ensures sound { IfOk result (λ d. IsDef d) }
+    ensures sound { IfOk result (λ d. AreNetsNamed d → IsDef d) }
     ensures ranges { IfOk result (λ d. AreRanges parsed.total d) }
 {
     let Some(units) = parsed.units else {

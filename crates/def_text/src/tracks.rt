@@ -5,7 +5,7 @@ ghost use Rattle.rt_forms.specs.Clauses.{Reads, Gives};
 ghost use Rattle.rt_forms.specs.Form.{one, admit, turn, loop};
 ghost use Rattle.rt_forms.specs.Word.{place_of};
 ghost use Rattle.def_text.specs.Faults.{def_faults};
-ghost use Rattle.def_text.specs.Defs.{IsName, IsTrackRow};
+ghost use Rattle.def_text.specs.Defs.{IsNameWord, IsTrackRow};
 ghost use Rattle.def_text.specs.Tracks.{die as die_form, die_end as die_end_of, axis as axis_of, tracks_end as tracks_end_of, track_layer as track_layer_of, more_layers as more_layers_form, track_layers as track_layers_form, track_tail as track_tail_form, track_row as track_row_form};
 
 use crate::def::TrackRow;
@@ -75,7 +75,7 @@ fn tracks_end(alloc: Global, words: &mut Words) -> Result<bool, DefError>
 /// The layer that a word names.
 fn track_layer(alloc: Global, word: Word) -> Result<Name, DefError>
     ensures gives { Gives def_faults (λ x. x) result (track_layer_of (place_of word.entry)) }
-    ensures name { IfOk result (λ n. IsName n) }
+    ensures name { IfOk result (λ n. IsNameWord n) }
 {
     if word.is(b"MASK") {
         return Err(refused(alloc, word));
@@ -89,9 +89,9 @@ fn track_layer(alloc: Global, word: Word) -> Result<Name, DefError>
 /// One more layer, or the `;`. True where it was the `;`.
 #[tactic(auto, unfolding(crate::specs::Tracks::more_layers))]
 fn more_layers(alloc: Global, words: &mut Words, layers: &mut Seq<Name>) -> Result<bool, DefError>
-    requires names { All IsName layers.old }
+    requires names { All IsNameWord layers.old }
     ensures reads { Reads def_faults (λ last. turn last layers.new) result words.old words.new (more_layers_form layers.old) }
-    ensures names { OnOk result (All IsName layers.new) }
+    ensures names { OnOk result (All IsNameWord layers.new) }
 {
     let word = words.next()?;
     if word.is(b";") {
@@ -103,9 +103,9 @@ fn more_layers(alloc: Global, words: &mut Words, layers: &mut Seq<Name>) -> Resu
 
 /// The layers behind the first one, and the `;`.
 fn further_layers(alloc: Global, words: &mut Words, layers: &mut Seq<Name>) -> Result<(), DefError>
-    requires names { All IsName layers.old }
+    requires names { All IsNameWord layers.old }
     ensures reads { Reads def_faults (λ _. layers.new) result words.old words.new (loop more_layers_form layers.old) }
-    ensures names { OnOk result (All IsName layers.new) }
+    ensures names { OnOk result (All IsNameWord layers.new) }
 {
     'layers: while !more_layers(alloc, words, layers)? {}
     Ok(())
@@ -115,7 +115,7 @@ fn further_layers(alloc: Global, words: &mut Words, layers: &mut Seq<Name>) -> R
 #[tactic(auto, unfolding(crate::specs::Tracks::track_layers))]
 fn track_layers(alloc: Global, words: &mut Words) -> Result<Seq<Name>, DefError>
     ensures reads { Reads def_faults (λ x. x) result words.old words.new track_layers_form }
-    ensures names { IfOk result (λ layers. All IsName layers) }
+    ensures names { IfOk result (λ layers. All IsNameWord layers) }
 {
     let mut layers = Seq::new(alloc);
     let first = words.next()?;
@@ -128,7 +128,7 @@ fn track_layers(alloc: Global, words: &mut Words) -> Result<Seq<Name>, DefError>
 #[tactic(auto, unfolding(crate::specs::Tracks::track_tail))]
 fn track_tail(alloc: Global, words: &mut Words) -> Result<Option<Seq<Name>>, DefError>
     ensures reads { Reads def_faults (λ x. x) result words.old words.new track_tail_form }
-    ensures names { IfOk result (λ o. IfSome o (λ layers. All IsName layers)) }
+    ensures names { IfOk result (λ o. IfSome o (λ layers. All IsNameWord layers)) }
 {
     if tracks_end(alloc, words)? {
         Ok(Some(track_layers(alloc, words)?))

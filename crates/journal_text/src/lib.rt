@@ -35,13 +35,13 @@ fn kind(text: &mut Text, kind: EntryKind) -> Result<(), Memory>
     match kind {
         EntryKind::Pin { pin } => {
             text.bytes(b"pin ")?;
-            text.natural(u64::from(pin))
+            text.natural(u128::from(pin))
         }
         EntryKind::Stub { pin, rect } => {
             text.bytes(b"stub ")?;
-            text.natural(u64::from(pin))?;
+            text.natural(u128::from(pin))?;
             text.bytes(b" ")?;
-            text.natural(u64::from(rect))
+            text.natural(u128::from(rect))
         }
         EntryKind::Wire => text.bytes(b"wire"),
     }

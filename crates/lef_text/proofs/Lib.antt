@@ -1,6 +1,9 @@
 pub mod Grammar
 pub mod Yields
 pub mod Small
+pub mod Named
+pub mod Gives
+pub mod SoundTables
 pub mod Sound
 pub mod Rectangles
 pub mod Arrays

@@ -22,8 +22,7 @@ use Rattle.rt_base.specs.declared.geometry.Point.{Point}
 use Rattle.rt_base.specs.Sides.{Sides}
 use Rattle.lef_text.specs.declared.error.LefError.{LefError}
 use Rattle.lef_text.proofs.Yields.{Yields, yields_bind, yields_then, yields_check, yields_choose, yields_done, yields_one, OfTurn, yields_loop}
-use Rattle.lef_text.proofs.Small.{decimal_small, passed, passed_so, ok_is}
-use Rattle.lef_text.proofs.Sound.{on_line}
+use Rattle.lef_text.proofs.Small.{decimal_small, passed, passed_so, ok_is, on_line}
 
 -- ---- rectangles
 

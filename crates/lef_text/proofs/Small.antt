@@ -1,5 +1,5 @@
 -- Numbers that are read are small.
-use Rattle.std.proofs.Common.{◌≡◌, ℕ, ◌*◌, ◌^◌, ◌/◌, ◌%◌, ◌≤◌, ◌==◌, Bool, true, false, not, List, length, ◌++◌, position, Result, Ok, Err, ℤ, refl, subst, zero, suc, arith, nat_lt, if◌then◌else◌}
+use Rattle.std.proofs.Common.{ap, ◌≡◌, ℕ, ◌*◌, ◌^◌, ◌/◌, ◌%◌, ◌≤◌, ◌==◌, Bool, true, false, not, List, length, ◌++◌, position, Result, Ok, Err, ℤ, refl, subst, zero, suc, arith, nat_lt, if◌then◌else◌}
 use Rattle.std.specs.Str.Parse.{digits_value}
 use Rattle.std.proofs.Math.Nat.{div-le_of_le-mul}
 use Rattle.std.proofs.lemmas.Bool.Decides.{nat_tests}
@@ -7,6 +7,8 @@ use Rattle.rt_base.specs.Ranges.{IsWithin}
 use Rattle.rt_words.specs.Number.{quotient, with_sign, signed, amount}
 use Rattle.rt_words.specs.Reading.{decimal_of, parts_of, are_digits, whole_part, fraction_part, without_sign, is_point, begins_with_minus}
 use Rattle.rt_words.specs.declared.number.NumberFault.{NumberFault}
+use Rattle.rt_forms.specs.Reading.{at_line}
+use Rattle.lef_text.specs.declared.error.LefError.{LefError}
 use Rattle.rt_words.specs.declared.number.NumberFault.TheVariants.{TooManyDecimals, TooLarge, NotWhole, NotNumber}
 
 -- a test that is passed
@@ -23,6 +25,11 @@ not_above m u t = grind (arith, nat_tests)
 
 pub ok_is : {N A : Type 0} (x y : A) → (let r : Result A N = Ok x in r) ≡ Ok y → x ≡ y
 ok_is x y h = cc
+
+-- a meaning, behind the line of its fault
+pub on_line : {N A : Type 0} (fault : ℕ → N → LefError) (line : ℕ) (r : Result A N) (x : A) → at_line fault line r ≡ Ok x → r ≡ Ok x
+on_line {N} {A} fault line (Ok y) x h = ap (λ (v : A). Ok v) (ok_is {N = LefError} y x h)
+on_line fault line (Err e) x h = absurd cc
 
 quotient_small : (u d q : ℕ) → quotient u d ≡ Ok q → q ≤ 2 ^ 30
 quotient_small u d q h =

@@ -14,6 +14,8 @@ use Rattle.rt_base.specs.declared.tech.Via.{Via}
 use Rattle.rt_base.specs.declared.tech.LayerNo.{LayerNo}
 use Rattle.rt_base.specs.Sides.{Sides}
 use Rattle.rt_base.specs.Ranges.{IsWithin, IsWidth}
+use Rattle.rt_base.specs.Names.{IsName}
+use Rattle.rt_base.specs.Tables.{IsTable}
 use Rattle.rt_forms.specs.Lexeme.{Place}
 use Rattle.rt_forms.specs.Form.{next, one, check, done, loop, Turn, More, Done}
 use Rattle.rt_forms.specs.Reading.{is_name_word, at_line, semicolon, rest, the_word}
@@ -26,11 +28,8 @@ use Rattle.lef_text.specs.declared.library.LayerLines.{LayerLines}
 use Rattle.lef_text.specs.IsLef.{IsLayer, IsVia, IsOn, IsSpacing, IsPin, IfRouting, Alternate, directions, AreDistinct}
 use Rattle.lef_text.specs.Layers as layers
 use Rattle.lef_text.specs.Tables as tables
-use Rattle.lef_text.specs.declared.library.Rows.{Rows}
 use Rattle.lef_text.specs.Numbers.{number}
-use Rattle.rt_forms.specs.Form.{turn}
 use Rattle.rt_forms.specs.Reading.{a_name, up_to_word}
-use Rattle.std.proofs.lemmas.List.Elements.{All-head}
 use Rattle.lef_text.specs.declared.lef.Macro.{Macro}
 use Rattle.lef_text.specs.declared.library.LayerType.{LayerType}
 use Rattle.lef_text.specs.declared.library.LayerType.TheVariants as types
@@ -39,7 +38,10 @@ use Rattle.lef_text.specs.declared.layer_words.LayerLine.TheVariants as lines
 use Rattle.lef_text.specs.Words.{layer_line_of}
 use Rattle.lef_text.specs.Numbers.{length_at_least, from_least, length_line}
 use Rattle.lef_text.proofs.Yields.{Yields, yields_bind, yields_then, yields_check, yields_done, yields_refused, yields_one, yields_choose, OfTurn, yields_loop}
-use Rattle.lef_text.proofs.Small.{decimal_small, passed, passed_so, ok_is}
+use Rattle.lef_text.proofs.Small.{decimal_small, passed, passed_so, ok_is, on_line}
+use Rattle.lef_text.proofs.Named.{IsNamed}
+use Rattle.lef_text.proofs.Gives.{Gives, gives_always, gives_bind, gives_then, gives_one}
+use Rattle.lef_text.proofs.SoundTables.{AreLengths, AreRows, yields_lengths, yields_rows, table_is, no_table_is, entry_small}
 
 -- ---- names
 
@@ -61,7 +63,7 @@ pub not_false : (b : Bool) → not b ≡ false → b ≡ true
 not_false true h = refl
 not_false false h = absurd cc
 
--- a name that was new
+-- a word that looks like a name and was new
 pub new_name_is : (names : List (List ℕ)) (p q : Place) → layers.new_name names p ≡ Ok q → (is_name_word q.word ≡ true) × All (λ n. n ≢ q.word) names
 new_name_is names p q h =
     let a = passed (not (is_name_word p.word)) _ _ q h in
@@ -126,10 +128,6 @@ least_is least (Ok n) z small h =
     subst (IsLength least) (ok_is {N = NumberFault} n z a.1) (not_less n least a.0, small n refl)
 least_is least (Err e) z small h = absurd cc
 
-pub on_line : {N A : Type 0} (fault : ℕ → N → LefError) (line : ℕ) (r : Result A N) (x : A) → at_line fault line r ≡ Ok x → r ≡ Ok x
-on_line {N} {A} fault line (Ok y) x h = ap (λ (v : A). Ok v) (ok_is {N = LefError} y x h)
-on_line fault line (Err e) x h = absurd cc
-
 pub length_is : (units : ℕ) (least : ℤ) (p : Place) (z : ℤ) → length_at_least units least p ≡ Ok z → IsLength least z
 length_is units least p z h = least_is least (decimal_of p.word units) z (decimal_small p.word units) (on_line Number p.line _ z h)
 
@@ -140,6 +138,7 @@ record IsLines (called : List ℕ) (is_routing : Bool) (s : LayerLines) : Type 0
   routing : s.routing ≡ is_routing
   width : IfSome s.width (IsLength (pos 1))
   spacing : IfSome s.spacing (IsWithin (2 ^ 30))
+  table : IsTable s.table
 
 record IsWhole (called : List ℕ) (is_routing : Bool) (top : Option (List ℕ × Bool)) (s : LayerLines) : Type 0 where
   lines : IsLines called is_routing s
@@ -160,14 +159,14 @@ abbrev TurnOk : List ℕ → Bool → Option (List ℕ × Bool) → Turn LayerLi
 TurnOk name routing top t = OfTurn (IsLines name routing) (IsWhole name routing top) t
 
 yields_counted : (name : List ℕ) (routing : Bool) (top : Option (List ℕ × Bool)) (s : LayerLines) → IsLines name routing s → Yields (done {E = LefError} (tables.counted s)) (TurnOk name routing top)
-yields_counted name routing top s h = yields_done (tables.counted s) (TurnOk name routing top) (record { name = h.name; routing = h.routing; width = h.width; spacing = h.spacing })
+yields_counted name routing top s h = yields_done (tables.counted s) (TurnOk name routing top) (record { name = h.name; routing = h.routing; width = h.width; spacing = h.spacing; table = h.table })
 
 yields_skipped : (name : List ℕ) (routing : Bool) (top : Option (List ℕ × Bool)) (s : LayerLines) → IsLines name routing s → Yields (tables.counted_line s) (TurnOk name routing top)
 yields_skipped name routing top s h = yields_then rest _ (TurnOk name routing top) (λ u. yields_counted name routing top s h)
 
 with_spacing_ok : (name : List ℕ) (routing : Bool) (top : Option (List ℕ × Bool)) (s : LayerLines) (r : Result ℤ LefError) → IsLines name routing s → ((n : ℤ) → r ≡ Ok n → IsWithin (2 ^ 30) n) → (t : Turn LayerLines) → layers.with_spacing s r ≡ Ok t → TurnOk name routing top t
 with_spacing_ok name routing top s (Ok n) h small t e =
-    subst (TurnOk name routing top) (ok_is {N = LefError} (More (record s { spacing = Some (tables.greatest s.spacing n) })) t e) (record { name = h.name; routing = h.routing; width = h.width; spacing = greatest_small s.spacing n h.spacing (small n refl) })
+    subst (TurnOk name routing top) (ok_is {N = LefError} (More (record s { spacing = Some (tables.greatest s.spacing n) })) t e) (record { name = h.name; routing = h.routing; width = h.width; spacing = greatest_small s.spacing n h.spacing (small n refl); table = h.table })
 with_spacing_ok name routing top s (Err f) h small t e = absurd cc
 
 yields_spacing : (units : ℕ) (name : List ℕ) (routing : Bool) (top : Option (List ℕ × Bool)) (s : LayerLines) → IsLines name routing s → Yields (layers.spacing_line units s) (TurnOk name routing top)
@@ -181,59 +180,15 @@ yields_spacing units name routing top s h =
 
 -- ---- tables
 
-number_small : (units : ℕ) → Yields (number units) (IsWithin (2 ^ 30))
-number_small units = yields_one _ _ (λ p n h. decimal_small p.word units n (on_line Number p.line _ n h))
-
-pushed_small : (xs : List ℤ) (n : ℤ) → All (IsWithin (2 ^ 30)) xs → IsWithin (2 ^ 30) n → All (IsWithin (2 ^ 30)) (xs ++ n ∷ [])
-pushed_small xs n h g = All-push (IsWithin (2 ^ 30)) xs n h g
-
-turn_small : (b : Bool) (xs : List ℤ) → All (IsWithin (2 ^ 30)) xs → OfTurn (All (IsWithin (2 ^ 30))) (All (IsWithin (2 ^ 30))) (turn b xs)
-turn_small true xs h = h
-turn_small false xs h = h
-
-yields_spacings : (units k : ℕ) → Yields (loop (tables.spacing_turn units k) []) (All (IsWithin (2 ^ 30)))
-unfolding tables.spacing_turn
-yields_spacings units k =
-    let A = All (IsWithin (2 ^ 30)) in
-    yields_loop (tables.spacing_turn units k) [] A A
-    (λ xs h. yields_bind (number units) _ (IsWithin (2 ^ 30)) (OfTurn A A) (number_small units) (λ n q. yields_done _ (OfTurn A A) (turn_small (length (xs ++ n ∷ []) == k) (xs ++ n ∷ []) (pushed_small xs n h q))))
-    (All-nil _)
-
-AreRows : Rows → Type 0
-AreRows s = All (λ (r : ℤ × List ℤ). All (IsWithin (2 ^ 30)) r.1) s.rows
-
-turn_rows : (b : Bool) (s : Rows) → AreRows s → OfTurn AreRows AreRows (turn b s)
-turn_rows true s h = h
-turn_rows false s h = h
-
-yields_rows : (units k : ℕ) → Yields (loop (tables.row_turn units k) tables.no_rows) AreRows
-unfolding tables.row_turn AreRows
-yields_rows units k =
-    let P = OfTurn AreRows AreRows in
-    yields_loop (tables.row_turn units k) tables.no_rows AreRows AreRows
-    (λ s h. yields_then (one (tables.next_above units s.last)) _ P (λ w.
-    yields_bind (loop (tables.spacing_turn units k) []) _ (All (IsWithin (2 ^ 30))) P (yields_spacings units k) (λ xs q.
-    yields_then (one tables.row_end) _ P (λ last.
-    yields_done _ P (turn_rows last (record { rows = s.rows ++ (w, xs) ∷ []; last = Some w }) (All-push (λ (r : ℤ × List ℤ). All (IsWithin (2 ^ 30)) r.1) s.rows (w, xs) h q))))))
-    (All-nil _)
-
-first_small : (xs : List ℤ) → All (IsWithin (2 ^ 30)) xs → IsWithin (2 ^ 30) (tables.first_number xs)
-first_small [] h = omega arith
-first_small (x ∷ xs) h = All-head (IsWithin (2 ^ 30)) x xs h
-
-entry_small : (rows : List (ℤ × List ℤ)) → All (λ (r : ℤ × List ℤ). All (IsWithin (2 ^ 30)) r.1) rows → IsWithin (2 ^ 30) (tables.first_entry rows)
-entry_small [] h = omega arith
-entry_small (r ∷ rs) h = first_small r.1 (All-head (λ (r : ℤ × List ℤ). All (IsWithin (2 ^ 30)) r.1) r rs h)
-
 yields_run : (units : ℕ) (name : List ℕ) (routing : Bool) (top : Option (List ℕ × Bool)) (s : LayerLines) (w : Place) → IsLines name routing s → Yields (tables.run_table units s w) (TurnOk name routing top)
-unfolding tables.run_table AreRows
+unfolding tables.run_table
 yields_run units name routing top s w h =
     let P = TurnOk name routing top in
     yields_then (check (tables.only_table w s s.table.lengths)) _ P (λ u.
-    yields_then (number units) _ P (λ l.
-    yields_then (loop (tables.length_turn units) (tables.one_length l)) _ P (λ lengths.
-    yields_bind (loop (tables.row_turn units (length lengths.numbers)) tables.no_rows) _ AreRows P (yields_rows units (length lengths.numbers)) (λ rows q.
-    yields_done _ P (record { name = h.name; routing = h.routing; width = h.width; spacing = greatest_small s.spacing (tables.first_entry rows.rows) h.spacing (entry_small rows.rows q) })))))
+    yields_then (number units) _ P (λ first.
+    yields_bind (loop (tables.length_turn units) (tables.one_length first)) _ AreLengths P (yields_lengths units first) (λ lengths l.
+    yields_bind (loop (tables.row_turn units (length lengths.numbers)) tables.no_rows) _ (AreRows (length lengths.numbers)) P (yields_rows units (length lengths.numbers) l.some) (λ rows q.
+    yields_done _ P (record { name = h.name; routing = h.routing; width = h.width; spacing = greatest_small s.spacing (tables.first_entry rows.rows) h.spacing (entry_small rows.rows q.small); table = table_is lengths rows l q })))))
 
 yields_table : (units : ℕ) (name : List ℕ) (routing : Bool) (top : Option (List ℕ × Bool)) (s : LayerLines) → IsLines name routing s → Yields (tables.table_line units s) (TurnOk name routing top)
 unfolding tables.table_line
@@ -255,13 +210,13 @@ yields_line : (units : ℕ) (top : Option (List ℕ × Bool)) (name : List ℕ) 
 unfolding layers.end_of_layer
 yields_line units top name routing s w lines.Direction h =
     let P = TurnOk name routing top in
-    yields_then (one layers.direction_word) _ P (λ d. yields_then semicolon _ P (λ u. yields_done _ P (record { name = h.name; routing = h.routing; width = h.width; spacing = h.spacing })))
+    yields_then (one layers.direction_word) _ P (λ d. yields_then semicolon _ P (λ u. yields_done _ P (record { name = h.name; routing = h.routing; width = h.width; spacing = h.spacing; table = h.table })))
 yields_line units top name routing s w lines.Unused h =
     let P = TurnOk name routing top in
     yields_then rest _ P (λ u. yields_done (More s) P h)
 yields_line units top name routing s w lines.Width h =
     let P = TurnOk name routing top in
-    yields_bind (length_line units (pos 1)) _ (IsLength (pos 1)) P (yields_length units (pos 1)) (λ n q. yields_done _ P (record { name = h.name; routing = h.routing; width = q; spacing = h.spacing }))
+    yields_bind (length_line units (pos 1)) _ (IsLength (pos 1)) P (yields_length units (pos 1)) (λ n q. yields_done _ P (record { name = h.name; routing = h.routing; width = q; spacing = h.spacing; table = h.table }))
 yields_line units top name routing s w lines.Spacing h = yields_spacing units name routing top s h
 yields_line units top name routing s w lines.SpacingTable h = yields_table units name routing top s h
 yields_line units top name routing s w lines.CurrentDensity h = yields_density name routing top s h
@@ -277,7 +232,7 @@ unfolding layers.layer_line
 yields_lines units top name routing =
     yields_loop (layers.layer_line units top) (layers.no_lines name routing) (IsLines name routing) (IsWhole name routing top)
     (λ u h. yields_then next _ (TurnOk name routing top) (λ w. yields_line units top name routing u w (layer_line_of w.word) h))
-    (record { name = refl; routing = refl; width = tt; spacing = tt })
+    (record { name = refl; routing = refl; width = tt; spacing = tt; table = no_table_is })
 
 -- ---- a layer at its end
 
@@ -384,11 +339,11 @@ number_more n m (Some k) le h = omega (arith, h)
 
 record IsOpen (lib : Library) (name : List ℕ) : Type 0 where
   sound : IsSound lib
-  word : is_name_word name ≡ true
+  word : IsName name
   apart : All (λ (l : Layer). l.name ≢ name) lib.layers
   named : Contains lib.layer_names name
 
-open_is : (lib : Library) (name : List ℕ) → IsSound lib → is_name_word name ≡ true → All (λ n. n ≢ name) lib.layer_names → IsOpen (layers.with_layer_name lib name) name
+open_is : (lib : Library) (name : List ℕ) → IsSound lib → IsName name → All (λ n. n ≢ name) lib.layer_names → IsOpen (layers.with_layer_name lib name) name
 open_is lib name h word new = record {
   sound = record {
     layers = h.layers;
@@ -433,7 +388,7 @@ with_layer_sound lib name routing s o w =
     let dirs : directions (lib.layers ++ l ∷ []) ≡ directions lib.layers ++ with_direction s.routing (unwrap_or s.horizontal false) [] = directions_push lib.layers l in
     let here : s.name ≡ name = w.lines.name in
     record {
-      layers = All-push IsLayer lib.layers l h.layers (record { name = rw here o.word; width = e.width; spacing = e.spacing });
+      layers = All-push IsLayer lib.layers l h.layers (record { name = rw here o.word; width = e.width; spacing = e.spacing; table = w.lines.table });
       alternate = subst Alternate (sym dirs) (alternate_more (directions lib.layers) (direction_of lib.top) s.routing (unwrap_or s.horizontal false) h.alternate h.top e.crossed);
       top = ap last_of dirs ∙ top_more (directions lib.layers) lib.top s s.routing refl h.top;
       numbers = All-push (IsNumber m) lib.numbers (Some (record { 0 = n })) (All-weaker (IsNumber n) (IsNumber m) (λ k q. number_more n m k le q) lib.numbers h.numbers) (omega arith);
@@ -476,9 +431,17 @@ yields_layer_by units lib name types.Routing o = yields_bind (loop (layers.layer
 yields_layer_by units lib name types.Cut o = yields_bind (loop (layers.layer_line units lib.top) (layers.no_lines name false)) _ (IsWhole name false lib.top) SoundTurn (yields_lines units lib.top name false) (λ s w. yields_done _ SoundTurn (with_layer_sound lib name false s o w))
 yields_layer_by units lib name types.Other o = yields_then (loop (layers.dropped_line name) tt) _ SoundTurn (λ u. yields_done _ SoundTurn (with_dropped_sound lib name o))
 
-pub yields_layer : (units : ℕ) (lib : Library) → IsSound lib → Yields (layers.layer_statement units lib) SoundTurn
+-- a name that was new
+pub new_name_named : (names : List (List ℕ)) (p q : Place) → IsNamed p → layers.new_name names p ≡ Ok q → IsName q.word × All (λ n. n ≢ q.word) names
+new_name_named names p q named h =
+    let a = passed (not (is_name_word p.word)) _ _ q h in
+    let b = passed (list_any (bytes_eq p.word) names) _ _ q a.1 in
+    let both : IsName p.word × All (λ n. n ≢ p.word) names = (named (not_false (is_name_word p.word) a.0), none_equal p.word names b.0) in
+    subst (λ (r : Place). IsName r.word × All (λ n. n ≢ r.word) names) (ok_is {N = LefError} p q b.1) both
+
+pub gives_layer : (units : ℕ) (lib : Library) → IsSound lib → Gives (layers.layer_statement units lib) SoundTurn
 unfolding layers.layer_statement
-yields_layer units lib h =
-    yields_bind (one (layers.new_name lib.layer_names)) _ (λ (p : Place). (is_name_word p.word ≡ true) × All (λ n. n ≢ p.word) lib.layer_names) SoundTurn
-    (yields_one _ _ (λ p q e. new_name_is lib.layer_names p q e))
-    (λ p q. yields_then layers.layer_type _ SoundTurn (λ t. yields_layer_by units (layers.with_layer_name lib p.word) p.word t (open_is lib p.word h q.0 q.1)))
+gives_layer units lib h =
+    gives_bind (one (layers.new_name lib.layer_names)) _ (λ (p : Place). IsName p.word × All (λ n. n ≢ p.word) lib.layer_names) SoundTurn
+    (gives_one _ _ (λ p q named e. new_name_named lib.layer_names p q named e))
+    (λ p q. gives_then layers.layer_type _ SoundTurn (λ t. gives_always _ SoundTurn (yields_layer_by units (layers.with_layer_name lib p.word) p.word t (open_is lib p.word h q.0 q.1))))

@@ -8,6 +8,7 @@ use Rattle.std.proofs.lemmas.List.{map-append}
 use Rattle.std.proofs.lemmas.List.Elements.{All-push, All-nil}
 use Rattle.rt_base.specs.declared.tech.Via.{Via}
 use Rattle.rt_base.specs.declared.tech.LayerNo.{LayerNo}
+use Rattle.rt_base.specs.Names.{IsName}
 use Rattle.rt_base.specs.Sides.{Sides}
 use Rattle.rt_base.specs.Ranges.{IsWithin, AreSidesWithin}
 use Rattle.rt_base.proofs.Ranges.{sides_from_within}
@@ -41,10 +42,12 @@ use Rattle.lef_text.specs.declared.via_words.FormLine.TheVariants as forms
 use Rattle.lef_text.proofs.Arrays.{most, IsPair, IsEnclosure, IsArray, AreThree, AreFormLines, form_is, is_form, placed, rects_at_end_is}
 use Rattle.lef_text.specs.Lef as lefs
 use Rattle.lef_text.proofs.Yields.{Yields, yields_bind, yields_then, yields_done, yields_refused, yields_one, yields_choose, OfTurn, yields_loop, yields_text}
-use Rattle.lef_text.proofs.Small.{passed, passed_so, ok_is}
+use Rattle.lef_text.proofs.Small.{passed, passed_so, ok_is, on_line}
+use Rattle.lef_text.proofs.Named.{IsNamed}
+use Rattle.lef_text.proofs.Gives.{Gives, gives_always, gives_bind, gives_then, gives_one, gives_text}
 use Rattle.lef_text.proofs.Rectangles.{yields_rectangle, yields_polygon, shapes_all, slice_get_all}
 use Rattle.lef_text.proofs.SoundMacros.{yields_macro}
-use Rattle.lef_text.proofs.Sound.{IsMacroRead, IsSound, IsNumber, SoundTurn, yields_layer, distinct_push, none_equal, not_false, last_of, length_is, on_line}
+use Rattle.lef_text.proofs.Sound.{IsMacroRead, IsSound, IsNumber, SoundTurn, gives_layer, distinct_push, none_equal, not_false, last_of, length_is}
 
 -- ---- layers by name
 
@@ -215,19 +218,19 @@ yields_via_rects units lib name all =
 
 -- ---- the statement
 
-via_name_is : (names : List (List ℕ)) (p q : Place) → vias.via_name names p ≡ Ok q → (is_name_word q.word ≡ true) × (is_path_word q.word ≡ false) × All (λ n. n ≢ q.word) names
-via_name_is names p q h =
+via_name_is : (names : List (List ℕ)) (p q : Place) → IsNamed p → vias.via_name names p ≡ Ok q → IsName q.word × (is_path_word q.word ≡ false) × All (λ n. n ≢ q.word) names
+via_name_is names p q named h =
     let a = passed (not (is_name_word p.word)) _ _ q h in
     let b = passed (is_path_word p.word) _ _ q a.1 in
     let c = passed (list_any (bytes_eq p.word) names) _ _ q b.1 in
     let e : p ≡ q = ok_is {N = LefError} p q c.1 in
-    let all : (is_name_word p.word ≡ true) × (is_path_word p.word ≡ false) × All (λ n. n ≢ p.word) names = (not_false (is_name_word p.word) a.0, b.0, none_equal p.word names c.0) in
-    subst (λ (r : Place). (is_name_word r.word ≡ true) × (is_path_word r.word ≡ false) × All (λ n. n ≢ r.word) names) e all
+    let all : IsName p.word × (is_path_word p.word ≡ false) × All (λ n. n ≢ p.word) names = (named (not_false (is_name_word p.word) a.0), b.0, none_equal p.word names c.0) in
+    subst (λ (r : Place). IsName r.word × (is_path_word r.word ≡ false) × All (λ n. n ≢ r.word) names) e all
 
 abbrev name_of : Via → List ℕ
 name_of v = v.name
 
-via_sound : (lib : Library) (name : List ℕ) (usable : Bool) (rects : List (LayerNo × Sides)) → IsSound lib → is_name_word name ≡ true → is_path_word name ≡ false → All (λ n. n ≢ name) lib.via_names → All (IsOn (length lib.layers) most) rects → IsSound (vias.with_via (vias.with_via_name lib name) name usable rects)
+via_sound : (lib : Library) (name : List ℕ) (usable : Bool) (rects : List (LayerNo × Sides)) → IsSound lib → IsName name → is_path_word name ≡ false → All (λ n. n ≢ name) lib.via_names → All (IsOn (length lib.layers) most) rects → IsSound (vias.with_via (vias.with_via_name lib name) name usable rects)
 via_sound lib name usable rects h word path new l =
     let v : Via = record { name = name; usable = usable; rects = rects } in
     record {
@@ -246,15 +249,15 @@ via_sound lib name usable rects h word path new l =
       macros_named = h.macros_named;
     }
 
-yields_via : (units : ℕ) (lib : Library) → IsSound lib → Yields (vias.via_statement units lib) SoundTurn
+gives_via : (units : ℕ) (lib : Library) → IsSound lib → Gives (vias.via_statement units lib) SoundTurn
 unfolding vias.via_statement
-yields_via units lib h =
-    yields_bind (one (vias.via_name lib.via_names)) _ (λ (p : Place). (is_name_word p.word ≡ true) × (is_path_word p.word ≡ false) × All (λ n. n ≢ p.word) lib.via_names) SoundTurn
-    (yields_one _ _ (λ p q e. via_name_is lib.via_names p q e))
-    (λ p q. yields_then (vias.optional (codes "DEFAULT")) _ SoundTurn (λ usable. yields_then (vias.optional (codes "TOPOFSTACKONLY")) _ SoundTurn (λ u.
+gives_via units lib h =
+    gives_bind (one (vias.via_name lib.via_names)) _ (λ (p : Place). IsName p.word × (is_path_word p.word ≡ false) × All (λ n. n ≢ p.word) lib.via_names) SoundTurn
+    (gives_one _ _ (λ p q named e. via_name_is lib.via_names p q named e))
+    (λ p q. gives_always _ SoundTurn (yields_then (vias.optional (codes "DEFAULT")) _ SoundTurn (λ usable. yields_then (vias.optional (codes "TOPOFSTACKONLY")) _ SoundTurn (λ u.
     yields_bind (vias.via_rects units (vias.with_via_name lib p.word) p.word) _ (All (IsOn (length lib.layers) most)) SoundTurn
     (yields_via_rects units (vias.with_via_name lib p.word) p.word h.numbers)
-    (λ rects l. yields_done _ SoundTurn (via_sound lib p.word usable rects h q.0 q.1 q.2 l)))))
+    (λ rects l. yields_done _ SoundTurn (via_sound lib p.word usable rects h q.0 q.1 q.2 l))))))
 
 -- ---- the text
 
@@ -265,19 +268,19 @@ units_sound lib n h = record { layers = h.layers; alternate = h.alternate; top =
 sections_sound : (lib : Library) (n : ℕ) → IsSound lib → IsSound (record lib { sections = n })
 sections_sound lib n h = record { layers = h.layers; alternate = h.alternate; top = h.top; numbers = h.numbers; vias = h.vias; macros = h.macros; layer_names = h.layer_names; among = h.among; layers_apart = h.layers_apart; via_names = h.via_names; vias_named = h.vias_named; macro_names = h.macro_names; macros_named = h.macros_named }
 
-yields_statement : (units : ℕ) (lib : Library) (w : Place) (k : Statement) → IsSound lib → Yields (lefs.statement_by units lib w k) SoundTurn
-yields_statement units lib w statements.Units h = yields_then (loop lefs.units_line lib.units) _ SoundTurn (λ n. yields_done _ SoundTurn (units_sound lib n h))
-yields_statement units lib w statements.Unused h = yields_then rest _ SoundTurn (λ u. yields_done (More lib) SoundTurn h)
-yields_statement units lib w statements.Properties h = yields_then (up_to_pair (codes "END") (codes "PROPERTYDEFINITIONS")) _ SoundTurn (λ u. yields_done (More lib) SoundTurn h)
-yields_statement units lib w statements.Spacings h = yields_then (up_to_pair (codes "END") (codes "SPACING")) _ SoundTurn (λ u. yields_done (More lib) SoundTurn h)
-yields_statement units lib w statements.Extension h = yields_then (up_to_word (codes "ENDEXT")) _ SoundTurn (λ u. yields_done (More lib) SoundTurn h)
-yields_statement units lib w statements.Site h = yields_then lefs.named_section _ SoundTurn (λ u. yields_done (More lib) SoundTurn h)
-yields_statement units lib w statements.Rule h = yields_then lefs.named_section _ SoundTurn (λ u. yields_done _ SoundTurn (sections_sound lib (lib.sections + 1) h))
-yields_statement units lib w statements.Layer h = yields_layer units lib h
-yields_statement units lib w statements.Via h = yields_via units lib h
-yields_statement units lib w statements.Macro h = yields_macro units lib h
-yields_statement units lib w statements.End h = yields_then (the_word (codes "LIBRARY")) _ SoundTurn (λ u. yields_done (Done lib) SoundTurn h)
-yields_statement units lib w statements.Unknown h = yields_refused _ SoundTurn
+gives_statement : (units : ℕ) (lib : Library) (w : Place) (k : Statement) → IsSound lib → Gives (lefs.statement_by units lib w k) SoundTurn
+gives_statement units lib w statements.Units h = gives_always _ SoundTurn (yields_then (loop lefs.units_line lib.units) _ SoundTurn (λ n. yields_done _ SoundTurn (units_sound lib n h)))
+gives_statement units lib w statements.Unused h = gives_always _ SoundTurn (yields_then rest _ SoundTurn (λ u. yields_done (More lib) SoundTurn h))
+gives_statement units lib w statements.Properties h = gives_always _ SoundTurn (yields_then (up_to_pair (codes "END") (codes "PROPERTYDEFINITIONS")) _ SoundTurn (λ u. yields_done (More lib) SoundTurn h))
+gives_statement units lib w statements.Spacings h = gives_always _ SoundTurn (yields_then (up_to_pair (codes "END") (codes "SPACING")) _ SoundTurn (λ u. yields_done (More lib) SoundTurn h))
+gives_statement units lib w statements.Extension h = gives_always _ SoundTurn (yields_then (up_to_word (codes "ENDEXT")) _ SoundTurn (λ u. yields_done (More lib) SoundTurn h))
+gives_statement units lib w statements.Site h = gives_always _ SoundTurn (yields_then lefs.named_section _ SoundTurn (λ u. yields_done (More lib) SoundTurn h))
+gives_statement units lib w statements.Rule h = gives_always _ SoundTurn (yields_then lefs.named_section _ SoundTurn (λ u. yields_done _ SoundTurn (sections_sound lib (lib.sections + 1) h)))
+gives_statement units lib w statements.Layer h = gives_layer units lib h
+gives_statement units lib w statements.Via h = gives_via units lib h
+gives_statement units lib w statements.Macro h = gives_always _ SoundTurn (yields_macro units lib h)
+gives_statement units lib w statements.End h = gives_always _ SoundTurn (yields_then (the_word (codes "LIBRARY")) _ SoundTurn (λ u. yields_done (Done lib) SoundTurn h))
+gives_statement units lib w statements.Unknown h = gives_always _ SoundTurn (yields_refused _ SoundTurn)
 
 empty_sound : IsSound lefs.empty
 unfolding last_of
@@ -304,12 +307,12 @@ empty_sound = record {
 pub record IsLefSound (l : Lef) : Type 0 where
   pub is_sound : (lib : Library) × IsSound lib × (l ≡ lefs.lef_of lib)
 
-pub yields_lef : (units : ℕ) → Yields (lefs.lef units) IsLefSound
+pub gives_lef : (units : ℕ) → Gives (lefs.lef units) IsLefSound
 unfolding lefs.lef lefs.statement
-yields_lef units =
-    yields_bind (text (lefs.statement units) lefs.empty) _ IsSound IsLefSound
-    (yields_text (lefs.statement units) lefs.empty IsSound (λ lib h. yields_then next _ SoundTurn (λ w. yields_statement units lib w (statement_of w.word) h)) empty_sound)
-    (λ lib h. yields_done (lefs.lef_of lib) IsLefSound (record { is_sound = (lib, h, refl) }))
+gives_lef units =
+    gives_bind (text (lefs.statement units) lefs.empty) _ IsSound IsLefSound
+    (gives_text (lefs.statement units) lefs.empty IsSound (λ lib h. gives_then next _ SoundTurn (λ w. gives_statement units lib w (statement_of w.word) h)) empty_sound)
+    (λ lib h. gives_always _ IsLefSound (yields_done (lefs.lef_of lib) IsLefSound (record { is_sound = (lib, h, refl) })))
 
 both_true : (a b : Bool) → (a && b) ≡ true → (a ≡ true) × (b ≡ true)
 both_true true b h = (refl, h)

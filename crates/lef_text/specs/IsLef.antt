@@ -1,6 +1,8 @@
 -- What holds of each LEF that is read.
 use Rattle.std.specs.Prelude.{◌≡◌, ◌≢◌, ℕ, ◌<◌, ◌^◌, ◌+◌, ◌||◌, Bool, true, false, not, List, [], ◌∷◌, map, filter, length, All, AllPairs, ℤ, pos, ◌≤ℤ◌, bytes_eq, codes, nat_lt}
+use Rattle.rt_base.specs.Names.{IsName}
 use Rattle.rt_base.specs.Sides.{Sides}
+use Rattle.rt_base.specs.Tables.{IsTable}
 use Rattle.rt_base.specs.Ranges.{IsWithin, IsWidth, AreSidesWithin}
 use Rattle.rt_base.specs.declared.tech.LayerNo.{LayerNo}
 use Rattle.rt_base.specs.declared.tech.Layer.{Layer}
@@ -22,9 +24,10 @@ IfRouting true P = P
 IfRouting false P = Unit {0}
 
 pub record IsLayer (l : Layer) : Type 0 where
-  pub name : is_name_word l.name ≡ true
+  pub name : IsName l.name
   pub width : IfRouting l.routing (IsWidth l.width)
   pub spacing : IsSpacing l.spacing
+  pub table : IsTable l.table
 
 -- each differs from the one before
 abbrev pub Alternate : List Bool → Type 0
@@ -41,7 +44,7 @@ abbrev pub IsOn : ℕ → ℕ → LayerNo × Sides → Type 0
 IsOn layers most r = (r.0.0 < layers) × AreSidesWithin most r.1
 
 pub record IsVia (layers : ℕ) (v : Via) : Type 0 where
-  pub name : is_name_word v.name ≡ true
+  pub name : IsName v.name
   pub no_path_word : is_path_word v.name ≡ false
   pub rects : All (IsOn layers (2 ^ 60 + 2 ^ 30)) v.rects
 

@@ -1,6 +1,7 @@
 //! Reading a LEF text.
 ghost use Rattle.std.specs.Prelude.{◌≡◌, ◌<◌, ◌^◌, length, IfOk, IsTrue};
 ghost use Rattle.std.specs.List.{list_all};
+ghost use Rattle.rt_base.specs.Scan.{IsCutInto};
 ghost use Rattle.rt_base.specs.Tokens.{AllInside};
 ghost use Rattle.rt_forms.specs.Clauses.{ReadsText};
 ghost use Rattle.lef_text.specs.Faults.{lef_faults};
@@ -62,7 +63,7 @@ pub fn read_lef_tokens(
     tokens: &[Token],
     units: u32,
 ) -> Result<Lef, LefError>
-    requires { AllInside (length text.now) tokens.now }
+    requires { IsCutInto text.now tokens.now }
     ensures text { ReadsText lef_faults (λ x. x) (lef_form units) text.now tokens.now result }
     ensures fits { IfOk result (λ l. IsLef l) }
 {

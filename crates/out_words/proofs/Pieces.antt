@@ -6,7 +6,7 @@ use Rattle.std.proofs.lemmas.List.Folds.{list_any-append}
 use Rattle.rt_base.specs.Parts.{is_blank, is_bad, Part, Blank, Plain, spelling, Begins, AllFit}
 use Rattle.rt_base.specs.Scan.{IsText}
 use Rattle.rt_base.proofs.Parting.{or_false}
-use Rattle.written.specs.Cuts.{IsPlainWord}
+use Rattle.rt_base.specs.Names.{IsPlainWord}
 use Rattle.out_words.proofs.Fitting.{spelling-append, part_words, part_words-append, fit-append}
 
 -- parts that may stand before white space

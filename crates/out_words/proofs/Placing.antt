@@ -3,6 +3,7 @@ use Rattle.std.proofs.Common.{◌≡◌, ◌∙◌, ℕ, ◌+◌, ◌-◌, Bool,
 use Rattle.std.specs.Prelude.{slice_range}
 use Rattle.std.proofs.lemmas.List.{append-nil}
 use Rattle.std.proofs.Math.Seq.{take-append_seam, drop-append_seam}
+use Rattle.rt_base.proofs.Lists.{range-middle}
 use Rattle.rt_base.specs.Parts.{Part, spelled, spelling, is_token, line_after, token_after, tokens_after}
 use Rattle.rt_forms.specs.Lexeme.{Place, places}
 use Rattle.written.specs.Cuts.{bytes_of}
@@ -18,11 +19,6 @@ part_places before [] = []
 part_places before (p ∷ ps) = if is_token p then place_after before p ∷ part_places (before ++ spelled p) ps else part_places (before ++ spelled p) ps
 
 -- a middle of a list
-pub range-middle : (a b c : List ℕ) → slice_range (a ++ (b ++ c)) (length a) (length a + length b) ≡ b
-range-middle a b c =
-    let n : (length a + length b) - length a ≡ length b = omega arith in
-    rw (n, drop-append_seam a (b ++ c)) (take-append_seam b c)
-
 pub places-parts : (text before : List ℕ) (ps : List Part) → text ≡ before ++ spelling ps → places text (tokens_after before ps) ≡ part_places before ps
 places-parts text before [] e = refl
 places-parts text before (p ∷ ps) e =

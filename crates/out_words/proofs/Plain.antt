@@ -18,7 +18,7 @@ use Rattle.track_graph.specs.declared.history.Stroke.{Stroke}
 use Rattle.track_graph.specs.declared.history.Stroke.TheVariants.{Run, Via as ViaAt}
 use Rattle.track_graph.specs.Levels.{levels, routing_from, layer_name_of}
 use Rattle.track_graph.specs.Metal.{Metal, first_level_name, via_level_name, via_name_of, via_rects}
-use Rattle.written.specs.Cuts.{IsPlainWord}
+use Rattle.rt_base.specs.Names.{IsPlainWord}
 use Rattle.written.specs.Words.{point_words, stroke_words}
 use Rattle.out_words.specs.Strokes.{HasPlainNames, IsStrokeWithin}
 

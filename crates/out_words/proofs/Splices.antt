@@ -12,12 +12,14 @@ use Rattle.track_graph.specs.declared.design.Design.{Design}
 use Rattle.track_graph.specs.declared.design.Net.{Net}
 use Rattle.track_graph.specs.declared.history.State.{State}
 use Rattle.def_out.specs.Wiring.{net_strokes, routed_from, routed_def, wiring_text}
-use Rattle.written.specs.Cuts.{Cut, cut_words, bytes_of, with_words, IsPlainWord}
+use Rattle.rt_base.specs.Names.{IsPlainWord}
+use Rattle.written.specs.Cuts.{Cut, cut_words, bytes_of, with_words}
 use Rattle.written.specs.Words.{stroke_words, option_words}
 use Rattle.out_words.specs.Added.{added_from, IsNetCut}
 use Rattle.out_words.proofs.Fitting.{spelling-append, part_words, part_words-append, fit-append, fit-front, fit-back, Follows, follows_same, follows-behind, fit_before}
 use Rattle.out_words.proofs.Pieces.{text-append, text-parts}
-use Rattle.out_words.proofs.Placing.{part_places, places-parts, bytes-parts, range-middle, Parted, parted}
+use Rattle.rt_base.proofs.Lists.{range-middle}
+use Rattle.out_words.proofs.Placing.{part_places, places-parts, bytes-parts, Parted, parted}
 use Rattle.out_words.proofs.Wiring.{Inserted, wiring_put_in}
 
 -- parts of a text with these words, which may stand where others stood

@@ -14,7 +14,7 @@ use Rattle.track_graph.specs.declared.history.Stroke.TheVariants.{Run, Via as Vi
 use Rattle.track_graph.specs.Levels.{layer_name_of}
 use Rattle.track_graph.specs.Metal.{via_level_name, via_name_of}
 use Rattle.def_out.specs.Wiring.{stroke_text, further_text, wiring_text}
-use Rattle.written.specs.Cuts.{IsPlainWord}
+use Rattle.rt_base.specs.Names.{IsPlainWord}
 use Rattle.written.specs.Words.{point_words, stroke_words, further_words, option_words}
 use Rattle.out_words.proofs.Fitting.{part_words, Follows, follows_feed}
 use Rattle.out_words.proofs.Pieces.{Pieces, Lines, respelled, one_word, spaced, indented, line_before, last_feed}

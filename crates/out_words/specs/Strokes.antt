@@ -6,7 +6,7 @@ use Rattle.track_graph.specs.declared.history.Stroke.{Stroke}
 use Rattle.track_graph.specs.declared.history.Stroke.TheVariants.{Run, Via as ViaAt}
 use Rattle.track_graph.specs.Levels.{layer_name_of}
 use Rattle.track_graph.specs.Metal.{via_level_name, via_name_of}
-use Rattle.written.specs.Cuts.{IsPlainWord}
+use Rattle.rt_base.specs.Names.{IsPlainWord}
 
 -- the names that the stroke is written with are plain
 abbrev pub HasPlainNames : Tech → Stroke → Type 0

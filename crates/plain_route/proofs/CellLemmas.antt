@@ -11,7 +11,7 @@ use Rattle.std.proofs.lemmas.List.Folds.{list_any_at}
 use Rattle.std.proofs.lemmas.Option.{unwrap_or-slice_get, slice_get_within, get_or_from_slice_get, same_Some}
 use Rattle.std.proofs.lemmas.Nat.{le-div}
 use Rattle.std.proofs.Math.Nat.{div-mul-le_self}
-use Rattle.rt_base.specs.Conflict.{conflict_of, same_owner, is_near_of, spacing_of}
+use Rattle.rt_base.specs.Conflict.{conflict_of, same_owner, is_near_of, largest_spacing}
 use Rattle.rt_base.specs.Geometry.{gap_between, gap_x, gap_y}
 use Rattle.least_walk.proofs.Keys.{contains_first}
 use Rattle.rt_base.specs.declared.tech.LayerNo.{LayerNo}
@@ -56,8 +56,8 @@ shared_part axis al ah bl bh s some a b near =
 -- what a conflict means
 record IsConflict (tech : Tech) (a b : Shape) : Type 0 where
   pub layer : a.layer.0 ≡ b.layer.0
-  pub in_x : gap_x a.rect b.rect < spacing_of tech a.layer
-  pub in_y : gap_y a.rect b.rect < spacing_of tech a.layer
+  pub in_x : gap_x a.rect b.rect < largest_spacing tech a.layer
+  pub in_y : gap_y a.rect b.rect < largest_spacing tech a.layer
 
 less_by_squares : (x y s : ℕ) → nat_lt (x * x + y * y) (s * s) ≡ true → (x < s) × (y < s)
 less_by_squares x y s h =
@@ -71,14 +71,14 @@ less_by_squares x y s h =
     first x y s h = grind arith
 
 conflict_is : (tech : Tech) (a b : Shape) → conflict_of tech a b ≡ true → IsConflict tech a b
-conflict_is tech a b h = parts (a.layer.0 == b.layer.0) (same_owner a.owner b.owner) (is_near_of (gap_x a.rect b.rect) (gap_y a.rect b.rect) (spacing_of tech a.layer)) refl refl h
+conflict_is tech a b h = parts (a.layer.0 == b.layer.0) (same_owner a.owner b.owner) (is_near_of (gap_x a.rect b.rect) (gap_y a.rect b.rect) (largest_spacing tech a.layer)) refl refl h
   where
     equal : (m n : ℕ) → (m == n) ≡ true → m ≡ n
     equal m n e = grind (arith, nat_tests)
 
-    parts : (l o near : Bool) → (a.layer.0 == b.layer.0) ≡ l → is_near_of (gap_x a.rect b.rect) (gap_y a.rect b.rect) (spacing_of tech a.layer) ≡ near → (l && not o && near) ≡ true → IsConflict tech a b
+    parts : (l o near : Bool) → (a.layer.0 == b.layer.0) ≡ l → is_near_of (gap_x a.rect b.rect) (gap_y a.rect b.rect) (largest_spacing tech a.layer) ≡ near → (l && not o && near) ≡ true → IsConflict tech a b
     parts true false true l near e =
-        let less = less_by_squares (gap_x a.rect b.rect) (gap_y a.rect b.rect) (spacing_of tech a.layer) near in
+        let less = less_by_squares (gap_x a.rect b.rect) (gap_y a.rect b.rect) (largest_spacing tech a.layer) near in
         record { layer = equal a.layer.0 b.layer.0 l; in_x = less.0; in_y = less.1 }
     parts true false false l near e = cc
     parts true true near_test l near e = cc
@@ -141,7 +141,7 @@ adds_one number cell cells numbers within is = record {
 }
 
 -- one shape more in the cells
-pub filled_more : (tech : Tech) (m : Mesh) (kept : List Shape) (i : ℕ) (b : Shape) (cells new : List (List ℕ)) → IsFilled tech m kept i cells → slice_get kept i ≡ Some b → IsProper b.rect → Adds i (IsInArea b.layer.0 (area_near m b.rect (spacing_of tech b.layer))) cells new → IsFilled tech m kept (i + 1) new
+pub filled_more : (tech : Tech) (m : Mesh) (kept : List Shape) (i : ℕ) (b : Shape) (cells new : List (List ℕ)) → IsFilled tech m kept i cells → slice_get kept i ≡ Some b → IsProper b.rect → Adds i (IsInArea b.layer.0 (area_near m b.rect (largest_spacing tech b.layer))) cells new → IsFilled tech m kept (i + 1) new
 filled_more tech m kept i b cells new f at proper a = record {
   count = a.count ∙ f.count;
   proper = λ j x lt is. ⊎_elim
@@ -149,7 +149,7 @@ filled_more tech m kept i b cells new f at proper a = record {
       (λ (other : j ≡ i → ⊥). f.proper j x (omega (arith, lt, other)) is)
       (cases_eq j i);
   has = λ j x cell lt is near. ⊎_elim
-      (λ (same : j ≡ i). subst (λ (k : ℕ). Contains (numbers_at new cell) k) (sym same) (a.has cell (subst (λ (y : Shape). IsInArea y.layer.0 (area_near m y.rect (spacing_of tech y.layer)) cell) (sym (one j x same is)) near)))
+      (λ (same : j ≡ i). subst (λ (k : ℕ). Contains (numbers_at new cell) k) (sym same) (a.has cell (subst (λ (y : Shape). IsInArea y.layer.0 (area_near m y.rect (largest_spacing tech y.layer)) cell) (sym (one j x same is)) near)))
       (λ (other : j ≡ i → ⊥). a.keeps cell j (f.has j x cell (omega (arith, lt, other)) is near))
       (cases_eq j i);
 }
@@ -215,12 +215,12 @@ clear_is tech o a sifted proper clear = any_none (conflict_of tech a) o.kept (λ
         let within : i < length o.kept = slice_get_within o.kept i b at in
         let is : IsConflict tech a b = conflict_is tech a b hit in
         let other : IsProper b.rect = sifted.filled.proper i b within at in
-        let x = shared_part o.mesh.columns a.rect.xl a.rect.xh b.rect.xl b.rect.xh (spacing_of tech a.layer) sifted.mesh.columns proper.wide other.wide is.in_x in
-        let y = shared_part o.mesh.rows a.rect.yl a.rect.yh b.rect.yl b.rect.yh (spacing_of tech a.layer) sifted.mesh.rows proper.tall other.tall is.in_y in
+        let x = shared_part o.mesh.columns a.rect.xl a.rect.xh b.rect.xl b.rect.xh (largest_spacing tech a.layer) sifted.mesh.columns proper.wide other.wide is.in_x in
+        let y = shared_part o.mesh.rows a.rect.yl a.rect.yh b.rect.yl b.rect.yh (largest_spacing tech a.layer) sifted.mesh.rows proper.tall other.tall is.in_y in
         let cell : ℕ = cell_number a.layer.0 x.part y.part in
         let mine : IsInArea a.layer.0 (area_of o.mesh a.rect) cell = record { column = x.part; in_columns = x.left; in_column = record { row = y.part; in_rows = y.left; number = refl } } in
-        let near : IsInArea a.layer.0 (area_near o.mesh b.rect (spacing_of tech a.layer)) cell = record { column = x.part; in_columns = x.right; in_column = record { row = y.part; in_rows = y.right; number = refl } } in
-        let its : IsInArea b.layer.0 (area_near o.mesh b.rect (spacing_of tech b.layer)) cell = subst (λ (l : LayerNo). IsInArea l.0 (area_near o.mesh b.rect (spacing_of tech l)) cell) (same_layer a.layer b.layer is.layer) near in
+        let near : IsInArea a.layer.0 (area_near o.mesh b.rect (largest_spacing tech a.layer)) cell = record { column = x.part; in_columns = x.right; in_column = record { row = y.part; in_rows = y.right; number = refl } } in
+        let its : IsInArea b.layer.0 (area_near o.mesh b.rect (largest_spacing tech b.layer)) cell = subst (λ (l : LayerNo). IsInArea l.0 (area_near o.mesh b.rect (largest_spacing tech l)) cell) (same_layer a.layer b.layer is.layer) near in
         not_both _ (clear cell mine) (hit_in tech o.kept a b (numbers_at o.cells cell) i (sifted.filled.has i b cell within at its) at hit)
 
     by_test : (i : ℕ) (b : Shape) → slice_get o.kept i ≡ Some b → (t : Bool) → conflict_of tech a b ≡ t → conflict_of tech a b ≡ false

@@ -8,22 +8,20 @@ use Rattle.rt_base.specs.declared.walk.Entry.{Entry}
 use Rattle.rt_base.specs.declared.walk.EntryKind.TheVariants.{Wire as OnWire}
 use Rattle.rt_base.specs.declared.walk.Vertex.{Vertex}
 use Rattle.rt_base.specs.declared.walk.Walk.{Walk}
+use Rattle.rt_base.proofs.Lists.{in_cons}
+use Rattle.track_graph.specs.Conditions.{IsStateOf}
 use Rattle.track_graph.specs.declared.design.Design.{Design}
 use Rattle.track_graph.specs.declared.design.Pin.{Pin}
 use Rattle.track_graph.specs.declared.history.State.{State}
 use Rattle.track_graph.specs.Designs.{IsDesign}
 use Rattle.track_graph.specs.Entries.{pins_of}
 use Rattle.track_graph.specs.Levels.{TrackSystem, track_system_of, IsVertex}
-use Rattle.track_graph.specs.NetWalks.{IsNetWalk, IsRouted}
+use Rattle.track_graph.specs.NetWalks.{IsNetWalk, IsWalkOf}
 use Rattle.track_graph.specs.Searches.{IsStart, IsFinish}
 use Rattle.track_graph.specs.States.{net_state}
 use Rattle.track_graph.specs.Walks.{IsPath, vertices_of}
 use Rattle.track_graph.proofs.EntryLemmas.{entry_vertex}
 use Rattle.plain_route.specs.Stops.{on_wire, ends_of, entries_on, wire_entries, is_same, pin_entries, AreEntries}
-
-in_cons : {X : Type 0} (a : X) (xs : List X) (b : X) → Contains (a ∷ xs) b → (b ≡ a) ⊎ Contains xs b
-in_cons a xs b (zero, h, e) = inl (sym e)
-in_cons a xs b (suc k, h, e) = inr (k, omega arith, e)
 
 none_in : {X : Type 0} (b : X) → Contains [] b → ⊥
 none_in b h = omega (arith, h.1)
@@ -140,9 +138,9 @@ path_vertices g v u (e ∷ es) is p c = ⊎_elim
     (λ (r : Contains (vertices_of e.to es) u). path_vertices g e.to u es p.0.end p.1 r)
     (in_cons v (vertices_of e.to es) u c)
 
-wire_vertex : (d : Design) (n : ℕ) (ws : List Walk) (e : Entry) → IsDesign d → All (IsNetWalk d n) ws → IsOnWire ws e → IsVertex (track_system_of d) e.vertex
+wire_vertex : (d : Design) (n : ℕ) (ws : List Walk) (e : Entry) → IsDesign d → All (IsWalkOf d n) ws → IsOnWire ws e → IsVertex (track_system_of d) e.vertex
 wire_vertex d n ws e ok all (kind, (k, w, lt, is, c)) =
-    let walk : IsNetWalk d n w = subst (IsNetWalk d n) is (all k w lt) in
+    let walk : IsNetWalk d n w = (subst (IsWalkOf d n) is (all k w lt)).net_walk in
     path_vertices (track_system_of d) w.start.vertex e.vertex w.edges (entry_vertex d n w.start ok walk.start) walk.path c
 
 abbrev pinned : Design → State → ℕ → List Entry
@@ -151,7 +149,7 @@ pinned d s n = pin_entries true (net_state s n).joined (pins_of d n)
 abbrev wired : State → ℕ → List Entry
 wired s n = wire_entries (net_state s n).walks
 
-pub starts_are : (d : Design) (s : State) (n : ℕ) (entries : List Entry) → IsDesign d → IsRouted d s → entries ≡ pin_entries true (net_state s n).joined (pins_of d n) ++ wire_entries (net_state s n).walks → AreEntries d n (IsStart d s n) entries
+pub starts_are : (d : Design) (s : State) (n : ℕ) (entries : List Entry) → IsDesign d → IsStateOf d s → entries ≡ pin_entries true (net_state s n).joined (pins_of d n) ++ wire_entries (net_state s n).walks → AreEntries d n (IsStart d n (net_state s n)) entries
 starts_are d s n entries ok routed is = record {
   only = λ e h. ⊎_elim (λ (p : Contains (pinned d s n) e). inl (pin_entries-only true (net_state s n).joined (pins_of d n) e p)) (λ (w : Contains (wired s n) e). inr (wire_entries-only (net_state s n).walks e w)) (cases e h);
   has = λ e h. subst (λ es. Contains es e) (sym is) (⊎_elim
@@ -167,7 +165,7 @@ starts_are d s n entries ok routed is = record {
     cases : (e : Entry) → Contains entries e → Contains (pinned d s n) e ⊎ Contains (wired s n) e
     cases e h = Contains-append_cases (pinned d s n) (wired s n) e (subst (λ es. Contains es e) is h)
 
-pub finishes_are : (d : Design) (s : State) (n : ℕ) (entries : List Entry) → entries ≡ pin_entries false (net_state s n).joined (pins_of d n) → AreEntries d n (IsFinish d s n) entries
+pub finishes_are : (d : Design) (s : State) (n : ℕ) (entries : List Entry) → entries ≡ pin_entries false (net_state s n).joined (pins_of d n) → AreEntries d n (IsFinish d n (net_state s n)) entries
 finishes_are d s n entries is = record {
   only = λ e h. pin_entries-only false (net_state s n).joined (pins_of d n) e (subst (λ es. Contains es e) is h);
   has = λ e h. subst (λ es. Contains es e) (sym is) (pin_entries-has false (net_state s n).joined (pins_of d n) e h);

@@ -16,16 +16,18 @@ use Rattle.rt_base.specs.declared.walk.EntryKind.{EntryKind}
 use Rattle.rt_base.specs.declared.walk.EntryKind.TheVariants.{Pin as AtPin, Stub, Wire as OnWire}
 use Rattle.rt_base.specs.declared.walk.Vertex.{Vertex}
 use Rattle.rt_base.specs.declared.walk.Walk.{Walk}
-use Rattle.rt_base.specs.Geometry.{moved}
+use Rattle.rt_base.specs.Geometry.{moved, distance, nearest_point}
+use Rattle.track_graph.specs.States.{net_state}
+use Rattle.track_graph.specs.Readings.{hard_reading}
 use Rattle.track_graph.specs.declared.design.Design.{Design}
 use Rattle.track_graph.specs.declared.history.State.{State}
 use Rattle.track_graph.specs.Designs.{IsDesign, IsViaOf, IsLayerOf}
 use Rattle.track_graph.specs.Edges.{IsEdge, FitsKind, Joins, edge_metal, kind_metal, edge_cost_of}
-use Rattle.track_graph.specs.Entries.{entry_part, entry_kind_part, piece_metal, stub_metal, corner_of, nearest_point, rect_of}
+use Rattle.track_graph.specs.Entries.{entry_part, entry_kind_part, piece_metal, stub_metal, corner_of, rect_of}
 use Rattle.track_graph.specs.Levels.{track_system_of, levels, number_of, layer_no}
-use Rattle.track_graph.specs.Metal.{Metal, shapes_of, distance, wire_metal, via_rects}
+use Rattle.track_graph.specs.Metal.{Metal, shapes_of, wire_metal, via_rects}
 use Rattle.track_graph.specs.NetWalks.{IsNetEntry}
-use Rattle.track_graph.specs.Searches.{hard_reading, some_conflict, IsStart, IsFinish, IsLegal, IsLeast, NoneLegal, part_cost, guide_of}
+use Rattle.track_graph.specs.Searches.{some_conflict, IsStart, IsFinish, IsLegal, IsLeast, NoneLegal, part_cost, guide_of}
 use Rattle.track_graph.specs.Walks.{IsPath, PathInGuide, path_parts, parts_shapes, walk_parts}
 use Rattle.track_graph.proofs.EntryLemmas.{entry_vertex}
 use Rattle.track_graph.proofs.ShapeLemmas.{routing_number-below}
@@ -92,14 +94,14 @@ no_soft : (tech : Tech) (mine : List Shape) → some_conflict tech mine [] ≡ f
 no_soft tech [] = refl
 no_soft tech (a ∷ mine) = no_soft tech mine
 
-hard_part : (d : Design) (s : State) (n : ℕ) (part : ℕ × List Metal) → part_cost d (hard_reading d s) n part ≡ own_cost part
+hard_part : (d : Design) (s : State) (n : ℕ) (part : ℕ × List Metal) → part_cost d n (hard_reading d s) part ≡ own_cost part
 hard_part d s n part = ap (λ (b : Bool). cond b (8 * part.0) part.0) (no_soft d.tech (shapes_of n part.1))
 
-same_sum : (d : Design) (s : State) (n : ℕ) (parts : List (ℕ × List Metal)) → sum_by (part_cost d (hard_reading d s) n) parts ≡ sum_by own_cost parts
+same_sum : (d : Design) (s : State) (n : ℕ) (parts : List (ℕ × List Metal)) → sum_by (part_cost d n (hard_reading d s)) parts ≡ sum_by own_cost parts
 same_sum d s n [] = refl
-same_sum d s n (p ∷ ps) = omega (arith, sum_by-cons (part_cost d (hard_reading d s) n) p ps, sum_by-cons own_cost p ps, hard_part d s n p, same_sum d s n ps)
+same_sum d s n (p ∷ ps) = omega (arith, sum_by-cons (part_cost d n (hard_reading d s)) p ps, sum_by-cons own_cost p ps, hard_part d s n p, same_sum d s n ps)
 
-module _ (d : Design) (s : State) (g : Ground) (starts finishes : List Entry) (ok : IsDesign d) (obstacles : AreObstacles d.tech g.net (hard_reading d s).forbidding g.obstacles.kept) (from : AreEntries d g.net (IsStart d s g.net) starts) (to : AreEntries d g.net (IsFinish d s g.net) finishes) where
+module _ (d : Design) (s : State) (g : Ground) (starts finishes : List Entry) (ok : IsDesign d) (obstacles : AreObstacles d.tech g.net (hard_reading d s).forbidding g.obstacles.kept) (from : AreEntries d g.net (IsStart d g.net (net_state s g.net)) starts) (to : AreEntries d g.net (IsFinish d g.net (net_state s g.net)) finishes) where
   abbrev Hits : List Metal → Bool
   Hits ms = some_conflict d.tech (shapes_of g.net ms) (hard_reading d s).forbidding
 
@@ -135,7 +137,7 @@ module _ (d : Design) (s : State) (g : Ground) (starts finishes : List Entry) (o
       let r : IsClearPath e.to es = clear_path e.to es h.1 in
       record { path = (h.0.edge, r.path); inside = (h.0.inside, r.inside); clear = join (edge_cost_of d v e, edge_metal d v e) (path_parts d e.to es) (sym (edge_same v e h.0.edge) ∙ h.0.clear) r.clear }
 
-  route_from_legal : (w : Walk) → IsLegal d s (hard_reading d s) g.net w → IsRoute d g starts finishes w
+  route_from_legal : (w : Walk) → IsLegal d g.net (net_state s g.net) (hard_reading d s) w → IsRoute d g starts finishes w
   route_from_legal w h =
       let first : Contains starts w.start = from.has w.start h.walk.start in
       let last : Contains finishes w.finish = to.has w.finish h.walk.finish in
@@ -143,33 +145,31 @@ module _ (d : Design) (s : State) (g : Ground) (starts finishes : List Entry) (o
       let b = split (entry_part d g.net w.finish) (path_parts d w.start.vertex w.edges) a.1 in
       record {
         start = first;
-        start_open = record { inside = h.start_in; clear = entry_same w.start (from.fit w.start first) ∙ a.0 };
-        edges = legal_edges w.start.vertex w.edges h.walk.path h.path_in b.1;
+        start_open = record { inside = h.inside.start; clear = entry_same w.start (from.fit w.start first) ∙ a.0 };
+        edges = legal_edges w.start.vertex w.edges h.walk.path h.inside.path b.1;
         arrives = h.walk.arrives;
         finish = last;
-        finish_open = record { inside = h.finish_in; clear = entry_same w.finish (to.fit w.finish last) ∙ b.0 };
+        finish_open = record { inside = h.inside.finish; clear = entry_same w.finish (to.fit w.finish last) ∙ b.0 };
       }
 
-  legal_from_route : (w : Walk) → IsRoute d g starts finishes w → IsLegal d s (hard_reading d s) g.net w
+  legal_from_route : (w : Walk) → IsRoute d g starts finishes w → IsLegal d g.net (net_state s g.net) (hard_reading d s) w
   legal_from_route w h =
       let p : IsClearPath w.start.vertex w.edges = clear_path w.start.vertex w.edges h.edges in
       let first : Hits (entry_part d g.net w.start).1 ≡ false = sym (entry_same w.start (from.fit w.start h.start)) ∙ h.start_open.clear in
       let last : Hits (entry_part d g.net w.finish).1 ≡ false = sym (entry_same w.finish (to.fit w.finish h.finish)) ∙ h.finish_open.clear in
       record {
         walk = record { start = from.only w.start h.start; path = p.path; arrives = h.arrives; finish = to.only w.finish h.finish };
-        start_in = h.start_open.inside;
-        finish_in = h.finish_open.inside;
-        path_in = p.inside;
+        inside = record { start = h.start_open.inside; finish = h.finish_open.inside; path = p.inside };
         clear = join (entry_part d g.net w.start) (entry_part d g.net w.finish ∷ path_parts d w.start.vertex w.edges) first (join (entry_part d g.net w.finish) (path_parts d w.start.vertex w.edges) last p.clear);
       }
 
-  pub least_from_route : (w : Walk) → IsLeastRoute d g starts finishes w → IsLeast d s (hard_reading d s) g.net w
+  pub least_from_route : (w : Walk) → IsLeastRoute d g starts finishes w → IsLeast d g.net (net_state s g.net) (hard_reading d s) w
   least_from_route w h = record {
     legal = legal_from_route w h.route;
     least = λ v legal. omega (arith, h.least v (route_from_legal v legal), same_sum d s g.net (walk_parts d g.net w), same_sum d s g.net (walk_parts d g.net v));
   }
 
-  pub none_from_routes : HasNoRoute d g starts finishes → NoneLegal d s (hard_reading d s) g.net
+  pub none_from_routes : HasNoRoute d g starts finishes → NoneLegal d g.net (net_state s g.net) (hard_reading d s)
   none_from_routes none w legal = none w (route_from_legal w legal)
 
 pub none_then : {X : Type 0} {P Q : Type 0} → (o : Option X) → (P → Q) → IfNone o P → IfNone o Q

@@ -1,5 +1,4 @@
 pub mod GuideLemmas
-pub mod LineLemmas
 pub mod VertexLemmas
 pub mod OrderLemmas
 pub mod StepLemmas

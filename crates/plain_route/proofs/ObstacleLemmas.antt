@@ -4,7 +4,7 @@ use Rattle.std.specs.List.{list_any}
 use Rattle.std.proofs.lemmas.Bool.Decides.{nat_tests}
 use Rattle.std.proofs.lemmas.List.{drop_more}
 use Rattle.std.proofs.lemmas.List.Elements.{All-head, All-tail, All-nil, All-cons, All-append}
-use Rattle.rt_base.specs.Conflict.{conflict_of, same_owner, is_near_of, spacing_of}
+use Rattle.rt_base.specs.Conflict.{conflict_of, same_owner, is_near_of, largest_spacing}
 use Rattle.rt_base.specs.Geometry.{gap_x, gap_y}
 use Rattle.rt_base.specs.declared.tech.Owner.{Owner}
 use Rattle.rt_base.specs.declared.tech.Owner.TheVariants.{Net as OfNet, Nobody}
@@ -14,9 +14,8 @@ use Rattle.rt_base.specs.declared.walk.Walk.{Walk}
 use Rattle.track_graph.specs.declared.design.Design.{Design}
 use Rattle.track_graph.specs.declared.history.NetState.{NetState}
 use Rattle.track_graph.specs.Metal.{Metal, shapes_of}
-use Rattle.track_graph.specs.Rules.{every_net}
 use Rattle.track_graph.specs.Searches.{some_conflict}
-use Rattle.track_graph.specs.States.{net_shapes, standing_from}
+use Rattle.track_graph.specs.States.{net_shapes, standing_from, every_net}
 use Rattle.track_graph.specs.Walks.{walk_shapes_of}
 use Rattle.plain_route.specs.Obstacles.{may_forbid, added, AreObstacles}
 
@@ -68,12 +67,12 @@ owner_flip m Nobody = refl
 own_fine : (tech : Tech) (n : ℕ) (a b : Shape) → a.owner ≡ OfNet n → same_owner b.owner (OfNet n) ≡ true → conflict_of tech a b ≡ false
 own_fine tech n a b own same =
     let e : same_owner a.owner b.owner ≡ true = ap (λ (o : Owner). same_owner o b.owner) own ∙ sym (owner_flip n b.owner) ∙ same in
-    ap (λ (x : Bool). (a.layer.0 == b.layer.0) && not x && is_near_of (gap_x a.rect b.rect) (gap_y a.rect b.rect) (spacing_of tech a.layer)) e ∙ and_none _ _
+    ap (λ (x : Bool). (a.layer.0 == b.layer.0) && not x && is_near_of (gap_x a.rect b.rect) (gap_y a.rect b.rect) (largest_spacing tech a.layer)) e ∙ and_none _ _
 
 apart_fine : (tech : Tech) (a b : Shape) → (a.layer.0 ≡ b.layer.0 → ⊥) → conflict_of tech a b ≡ false
 apart_fine tech a b h =
     let e : (a.layer.0 == b.layer.0) ≡ false = differ a.layer.0 b.layer.0 h in
-    ap (λ (x : Bool). x && not (same_owner a.owner b.owner) && is_near_of (gap_x a.rect b.rect) (gap_y a.rect b.rect) (spacing_of tech a.layer)) e
+    ap (λ (x : Bool). x && not (same_owner a.owner b.owner) && is_near_of (gap_x a.rect b.rect) (gap_y a.rect b.rect) (largest_spacing tech a.layer)) e
   where
     differ : (m n : ℕ) → (m ≡ n → ⊥) → (m == n) ≡ false
     differ m n h = grind (arith, nat_tests)

@@ -16,6 +16,7 @@ use Rattle.std.proofs.lemmas.List.Filters.{All-dedup}
 use Rattle.std.proofs.lemmas.List.Sorted.{searchable_from_sorted, sorted_far, ranks_by, Contains-permutation, IsPermutation-sym}
 use Rattle.std.proofs.lemmas.Option.{slice_get-get_or, slice_get_within, get_or_from_slice_get}
 use Rattle.rt_base.specs.declared.walk.Vertex.{Vertex}
+use Rattle.rt_base.proofs.Lists.{in_cons}
 use Rattle.track_graph.specs.declared.design.Design.{Design}
 use Rattle.track_graph.specs.Searches.{guide_of}
 use Rattle.plain_route.specs.Vertices.{vertex_cmp, IsAscending, HasVertices, AreVertices}
@@ -77,10 +78,6 @@ ascending_from_ascends [] h i j d lt within = absurd (omega arith)
 ascending_from_ascends (x ∷ xs) h i zero d lt within = absurd (omega arith)
 ascending_from_ascends (x ∷ xs) h zero (suc j) d lt within = h.0 j d (omega arith)
 ascending_from_ascends (x ∷ xs) h (suc i) (suc j) d lt within = ascending_from_ascends xs h.1 i j d (omega arith) (omega arith)
-
-in_cons : (a : Vertex) (xs : List Vertex) (b : Vertex) → Contains (a ∷ xs) b → (b ≡ a) ⊎ Contains xs b
-in_cons a xs b (zero, h, e) = inl (sym e)
-in_cons a xs b (suc k, h, e) = inr (k, omega arith, e)
 
 here : (a : Vertex) (xs : List Vertex) → Contains (a ∷ xs) a
 here a xs = (zero, omega arith, refl)

@@ -15,11 +15,11 @@ use Rattle.rt_base.specs.declared.walk.EdgeKind.TheVariants.{Along, Via as ByVia
 use Rattle.rt_base.specs.declared.walk.Vertex.{Vertex}
 use Rattle.track_graph.specs.declared.design.Design.{Design}
 use Rattle.track_graph.specs.Designs.{IsDesign}
-use Rattle.track_graph.specs.Edges.{NoneBetween, AreNeighbours, IsAlong, IsVia, Joins, FitsKind, IsEdge}
-use Rattle.track_graph.specs.Levels.{track_system_of, IsVertex, along, line_of, lines_of, lines_below, positions_of}
+use Rattle.track_graph.specs.Edges.{AreNeighbours, IsAlong, IsVia, Joins, FitsKind, IsEdge}
+use Rattle.track_graph.specs.Levels.{track_system_of, IsVertex, along, line_of, lines_of, lines_below, positions_of, NoneBetween, vertex_at}
 use Rattle.track_graph.proofs.GraphLemmas.{none_between_left, none_between_right}
 use Rattle.plain_route.specs.Steps.{along_edge, by_via, Keeps, HasNeighbours, HasAbove, HasBelow, HasVia, HasVias}
-use Rattle.plain_route.specs.Vertices.{vertex_on}
+
 use Rattle.plain_route.proofs.VertexLemmas.{vertex_is}
 
 pub keeps_push : (old : List Edge) (e : Edge) (new : List Edge) → new ≡ old ++ e ∷ [] → Keeps old new
@@ -108,7 +108,7 @@ along_covered d v w e0 e1 e2 e3 is_vertex is under over keeps =
     let z : ℤ = along d.tech v.level w.point in
     let line : line_of d.tech w.level w.point ≡ line_of d.tech v.level v.point = ap (λ (k : ℕ). line_of d.tech k w.point) level ∙ sym is.line in
     let at : along d.tech w.level w.point ≡ along d.tech v.level w.point = ap (λ (k : ℕ). along d.tech k w.point) level in
-    let same : vertex_on d.tech (record { level = v.level; line = line_of d.tech v.level v.point; position = along d.tech v.level w.point }) ≡ w = vertex_is d.tech w v.level (line_of d.tech v.level v.point) (along d.tech v.level w.point) level line at in
+    let same : vertex_at d.tech v.level (line_of d.tech v.level v.point) (along d.tech v.level w.point) ≡ w = vertex_is d.tech w v.level (line_of d.tech v.level v.point) (along d.tech v.level w.point) level line at in
     let positions : Contains (positions_of d.tracks v.level) (along d.tech v.level w.point) = subst (λ (k : ℕ). Contains (positions_of d.tracks k) (along d.tech k w.point)) level is_vertex.at_position in
     subst (λ (u : Vertex). Contains e3 (edge_to Along u)) same (keeps (along_edge d.tech v (along d.tech v.level w.point)) (⊎_elim
     (λ (low : Contains (lines_below d.tracks v.level) (along d.tech v.level w.point)). over.keeps (along_edge d.tech v (along d.tech v.level w.point)) (under.has (along d.tech v.level w.point) low (is.neighbours.0, none_between_left (lines_below d.tracks v.level) (lines_of d.tracks (v.level + 1)) _ _ is.neighbours.1)))

@@ -1,5 +1,5 @@
 -- The vertices that are found in boxes.
-use Rattle.std.proofs.Common.{◌≡◌, ◌⊎◌, ⊎_elim, inl, inr, ℕ, ◌+◌, ◌<◌, ℤ, ◌≤ℤ◌, List, [], ◌∷◌, ◌++◌, Bool, true, false, cond, length, get_or, take, Contains, refl, sym, subst, ◌∙◌, arith}
+use Rattle.std.proofs.Common.{◌≡◌, ◌↔◌, ◌⊎◌, ⊎_elim, inl, inr, ℕ, ◌+◌, ◌<◌, ℤ, ◌≤ℤ◌, List, [], ◌∷◌, ◌++◌, Bool, true, false, cond, length, get_or, take, Contains, refl, sym, subst, ◌∙◌, arith}
 use Rattle.std.proofs.lemmas.List.{take_more}
 use Rattle.std.proofs.lemmas.List.Elements.{Contains-append_left, Contains-append_cases, Contains-push, Contains-push_cases}
 use Rattle.rt_base.specs.Sides.{Sides}
@@ -10,22 +10,22 @@ use Rattle.rt_base.specs.declared.tech.Tech.{Tech}
 use Rattle.rt_base.specs.declared.walk.Vertex.{Vertex}
 use Rattle.track_graph.specs.declared.design.Design.{Design}
 use Rattle.track_graph.specs.Guide.{Guide, InGuide}
-use Rattle.track_graph.specs.Levels.{is_horizontal, along, line_of, lines_below, lines_of}
-use Rattle.plain_route.specs.Vertices.{vertex_on, IsInBox, Finds, IsOnLine, IsOnLines, HasVertices, ranges_of}
+use Rattle.track_graph.specs.Levels.{is_horizontal, along, line_of, lines_below, lines_of, vertex_at}
+use Rattle.plain_route.specs.Vertices.{IsInBox, Finds, IsOnLine, IsOnLines, HasVertices, ranges_of}
 
 -- an element up to the next place is one before it, or the one there
 pub Contains-more : {X : Type 0} (xs : List X) (i : ℕ) (d x : X) → i < length xs → Contains (take (i + 1) xs) x → Contains (take i xs) x ⊎ (get_or xs i d ≡ x)
 Contains-more xs i d x lt h = Contains-push_cases (take i xs) (get_or xs i d) x (subst (λ ys. Contains ys x) (take_more xs i d lt) h)
 
 -- a vertex is that at its place
-pub vertex_at_place : (tech : Tech) (v : Vertex) → vertex_on tech (record { level = v.level; line = line_of tech v.level v.point; position = along tech v.level v.point }) ≡ v
+pub vertex_at_place : (tech : Tech) (v : Vertex) → vertex_at tech v.level (line_of tech v.level v.point) (along tech v.level v.point) ≡ v
 vertex_at_place tech v = by_direction (is_horizontal tech v.level)
   where
     by_direction : (b : Bool) → (let it : Vertex = record { level = v.level; point = cond b (record { x = cond b v.point.x v.point.y; y = cond b v.point.y v.point.x }) (record { x = cond b v.point.y v.point.x; y = cond b v.point.x v.point.y }) } in it) ≡ v
     by_direction true = refl
     by_direction false = refl
 
-pub vertex_is : (tech : Tech) (v : Vertex) (level : ℕ) (line position : ℤ) → v.level ≡ level → line_of tech v.level v.point ≡ line → along tech v.level v.point ≡ position → vertex_on tech (record { level = level; line = line; position = position }) ≡ v
+pub vertex_is : (tech : Tech) (v : Vertex) (level : ℕ) (line position : ℤ) → v.level ≡ level → line_of tech v.level v.point ≡ line → along tech v.level v.point ≡ position → vertex_at tech level line position ≡ v
 vertex_is tech v level line position a b c = rw (sym a, sym b, sym c) (vertex_at_place tech v)
 
 -- nothing is sought yet
@@ -55,8 +55,8 @@ Finds-skip d box v old outside = record {
 }
 
 -- the next position of a line
-pub Finds-position : (d : Design) (box : ℕ × Sides) (line : ℤ) (positions : List ℤ) (i : ℕ) (p : ℤ) (old mid new : List Vertex) → i < length positions → get_or positions i p ≡ p → Finds d box (IsOnLine d.tech line (take i positions)) old mid → Finds d box (λ w. w ≡ vertex_on d.tech (record { level = box.0; line = line; position = p })) mid new → Finds d box (IsOnLine d.tech line (take (i + 1) positions)) old new
-Finds-position d box line positions i p old mid new lt at f g = Finds-both d box (IsOnLine d.tech line (take i positions)) (λ w. w ≡ vertex_on d.tech (record { level = box.0; line = line; position = p })) (IsOnLine d.tech line (take (i + 1) positions)) old mid new f g
+pub Finds-position : (d : Design) (box : ℕ × Sides) (line : ℤ) (positions : List ℤ) (i : ℕ) (p : ℤ) (old mid new : List Vertex) → i < length positions → get_or positions i p ≡ p → Finds d box (IsOnLine d.tech line (take i positions)) old mid → Finds d box (λ w. w ≡ vertex_at d.tech box.0 line p) mid new → Finds d box (IsOnLine d.tech line (take (i + 1) positions)) old new
+Finds-position d box line positions i p old mid new lt at f g = Finds-both d box (IsOnLine d.tech line (take i positions)) (λ w. w ≡ vertex_at d.tech box.0 line p) (IsOnLine d.tech line (take (i + 1) positions)) old mid new f g
     (λ v inside on. ⊎_elim
     (λ (before : Contains (take i positions) (along d.tech v.level v.point)). inl (record { line = on.line; position = before }))
     (λ (here : get_or positions i p ≡ along d.tech v.level v.point). inr (sym (vertex_is d.tech v box.0 line p (sym inside.level) on.line (sym here ∙ at))))
@@ -72,6 +72,9 @@ Finds-line d box lines positions i z old mid new lt at f g = Finds-both d box (I
 
 abbrev pub Covers : List ℤ → Span → List ℤ → Type 0
 Covers all range some = (z : ℤ) → Contains all z → range.lo ≤ℤ z → z ≤ℤ range.hi → Contains some z
+
+pub covers_those : (xs : List ℤ) (range : Span) (those : List ℤ) → ((z : ℤ) → Contains those z ↔ (Contains xs z × (range.lo ≤ℤ z) × (z ≤ℤ range.hi))) → Covers xs range those
+covers_those xs range those h z has above under = (h z).1 (has, above, under)
 
 -- a point of a rectangle stands within its ranges
 pub in_ranges : (tech : Tech) (level : ℕ) (s : Sides) (p : Point) → Holds s p → ((ranges_of tech level s).0.lo ≤ℤ along tech level p) × (along tech level p ≤ℤ (ranges_of tech level s).0.hi) × ((ranges_of tech level s).1.lo ≤ℤ line_of tech level p) × (line_of tech level p ≤ℤ (ranges_of tech level s).1.hi)

@@ -2,7 +2,7 @@
 use Rattle.std.specs.Prelude.{◌≡◌, ℕ, ◌+◌, ◌-◌, ◌*◌, ◌/◌, ◌<◌, ◌≤◌, ◌≤ℤ◌, min, List, [], Bool, true, false, length, slice_get, option_map, unwrap_or, Some, All, Contains}
 use Rattle.std.specs.Int.{int_gap}
 use Rattle.std.specs.List.{list_any}
-use Rattle.rt_base.specs.Conflict.{conflict_of, spacing_of}
+use Rattle.rt_base.specs.Conflict.{conflict_of, largest_spacing}
 use Rattle.rt_base.specs.Sides.{Sides}
 use Rattle.rt_base.specs.declared.geometry.Span.{Span}
 use Rattle.rt_base.specs.declared.tech.Shape.{Shape}
@@ -85,7 +85,7 @@ pub record Adds (number : ℕ) (Sought : ℕ → Type 0) (old new : List (List �
 pub record IsFilled (tech : Tech) (m : Mesh) (kept : List Shape) (past : ℕ) (cells : List (List ℕ)) : Type 0 where
   pub count : length cells ≡ length tech.layers * 4096
   pub proper : (i : ℕ) (b : Shape) → i < past → slice_get kept i ≡ Some b → IsProper b.rect
-  pub has : (i : ℕ) (b : Shape) (cell : ℕ) → i < past → slice_get kept i ≡ Some b → IsInArea b.layer.0 (area_near m b.rect (spacing_of tech b.layer)) cell → Contains (numbers_at cells cell) i
+  pub has : (i : ℕ) (b : Shape) (cell : ℕ) → i < past → slice_get kept i ≡ Some b → IsInArea b.layer.0 (area_near m b.rect (largest_spacing tech b.layer)) cell → Contains (numbers_at cells cell) i
 
 -- each kept shape is on a layer, and in the cells that it comes near
 pub record IsSifted (tech : Tech) (o : Obstacles) : Type 0 where

@@ -6,12 +6,12 @@ use Rattle.rt_base.specs.declared.walk.Edge.{Edge}
 use Rattle.rt_base.specs.declared.walk.EdgeKind.TheVariants.{Along, Via as ByVia}
 use Rattle.rt_base.specs.declared.walk.Vertex.{Vertex}
 use Rattle.track_graph.specs.Edges.{AreNeighbours}
-use Rattle.track_graph.specs.Levels.{along, line_of}
-use Rattle.plain_route.specs.Vertices.{vertex_on}
+use Rattle.track_graph.specs.Levels.{along, line_of, vertex_at}
+
 
 -- along the track of v to a position
 abbrev pub along_edge : Tech → Vertex → ℤ → Edge
-along_edge tech v z = record { kind = Along; to = vertex_on tech (record { level = v.level; line = line_of tech v.level v.point; position = z }) }
+along_edge tech v z = record { kind = Along; to = vertex_at tech v.level (line_of tech v.level v.point) (z) }
 
 -- by via k to a level
 abbrev pub by_via : Vertex → ℕ → ℕ → Edge

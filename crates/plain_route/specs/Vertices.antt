@@ -12,7 +12,6 @@ use Rattle.track_graph.specs.declared.design.Design.{Design}
 use Rattle.track_graph.specs.Guide.{Guide, InGuide}
 use Rattle.track_graph.specs.Levels.{track_system_of, IsVertex, is_horizontal, along, line_of}
 use Rattle.track_graph.specs.Searches.{guide_of}
-use Rattle.plain_route.specs.declared.ground.Place.{Place}
 
 -- by level, then by x, then by y
 abbrev pub vertex_cmp : Vertex → Vertex → Ordering
@@ -26,10 +25,6 @@ pub record AreVertices (d : Design) (n : ℕ) (vs : List Vertex) : Type 0 where
   pub has : (v : Vertex) → IsVertex (track_system_of d) v → InGuide (guide_of d n) v.level v.point → Contains vs v
   pub only : (v : Vertex) → Contains vs v → IsVertex (track_system_of d) v × InGuide (guide_of d n) v.level v.point
   pub ascending : IsAscending vs
-
--- the vertex at a place on a track
-abbrev pub vertex_on : Tech → Place → Vertex
-vertex_on tech p = record { level = p.level; point = if is_horizontal tech p.level then record { x = p.position; y = p.line } else record { x = p.line; y = p.position } }
 
 -- v is a vertex in a box of a guide
 pub record IsInBox (d : Design) (box : ℕ × Sides) (v : Vertex) : Type 0 where

@@ -1,9 +1,11 @@
 //! The answer of a search.
 ghost use Rattle.std.specs.Prelude.{IfOk, IfSome, IfNone};
+ghost use Rattle.track_graph.specs.Conditions.{IsStateOf};
 ghost use Rattle.track_graph.specs.Designs.{IsDesign};
 ghost use Rattle.track_graph.specs.Histories.{IsRoutable};
-ghost use Rattle.track_graph.specs.NetWalks.{IsRouted};
-ghost use Rattle.track_graph.specs.Searches.{hard_reading, IsLeast, NoneLegal};
+ghost use Rattle.track_graph.specs.Readings.{hard_reading};
+ghost use Rattle.track_graph.specs.Searches.{IsLeast, NoneLegal};
+ghost use Rattle.track_graph.specs.States.{net_state};
 ghost use Rattle.plain_route.specs.Ground.{IsGround};
 ghost use Rattle.plain_route.specs.Stops.{AreNetEntries};
 ghost use Rattle.plain_route.specs.Routes.{IsLeastRoute, HasNoRoute};
@@ -58,10 +60,10 @@ pub fn plain_search(
     net: u32,
 ) -> Result<Option<Walk>, Memory>
     requires design { IsDesign design.now }
-    requires routed { IsRouted design.now state.now }
+    requires routed { IsStateOf design.now state.now }
     requires net { IsRoutable design.now net }
-    ensures least { IfOk result (λ w. IfSome w (IsLeast design.now state.now (hard_reading design.now state.now) net)) }
-    ensures none { IfOk result (λ w. IfNone w (NoneLegal design.now state.now (hard_reading design.now state.now) net)) }
+    ensures least { IfOk result (λ w. IfSome w (IsLeast design.now net (net_state state.now net) (hard_reading design.now state.now))) }
+    ensures none { IfOk result (λ w. IfNone w (NoneLegal design.now net (net_state state.now net) (hard_reading design.now state.now))) }
 {
     let ground = Ground {
         net,

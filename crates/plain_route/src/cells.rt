@@ -1,7 +1,7 @@
 //! Obstacles in the cells of a grid, so that a test for conflicts looks at those nearby alone.
 ghost use Rattle.std.specs.Prelude.{◌≡◌, ◌<◌, ◌≤◌, ◌+◌, ◌*◌, ◌^◌, length, All, OnOk, IfOk};
 ghost use Rattle.std.specs.List.{list_any};
-ghost use Rattle.rt_base.specs.Conflict.{conflict_of, spacing_of};
+ghost use Rattle.rt_base.specs.Conflict.{conflict_of, largest_spacing};
 ghost use Rattle.track_graph.specs.Searches.{some_conflict};
 ghost use Rattle.plain_route.specs.Cells.{IsMesh, IsProper, area_of, area_near, cell_number, numbers_at, IsInColumn, IsInArea, Adds, IsFilled, IsSifted, conflicts_at, IsTest};
 
@@ -40,17 +40,6 @@ fn mesh_over(rect: &Rect) -> Mesh
         columns: Axis::over(range_x(rect)),
         rows: Axis::over(range_y(rect)),
     }
-}
-
-/// A layer's spacing, at least 1.
-fn spacing(tech: &Tech, layer: LayerNo) -> u64
-    requires { layer.0 < length tech.now.layers }
-    ensures { result ≡ spacing_of tech.now layer }
-{
-    tech.layers.as_slice()[layer.0 as usize]
-        .spacing
-        .max(1)
-        .unsigned_abs()
 }
 
 /// The cells that a rectangle meets.
@@ -142,10 +131,10 @@ fn add(
     requires mesh { IsMesh mesh.now }
     requires layer { shape.now.layer.0 < length tech.now.layers }
     requires count { length cells.old ≡ length tech.now.layers * 4096 }
-    ensures adds { OnOk result (Adds number (IsInArea shape.now.layer.0 (area_near mesh.now shape.now.rect (spacing_of tech.now shape.now.layer))) cells.old cells.new) }
+    ensures adds { OnOk result (Adds number (IsInArea shape.now.layer.0 (area_near mesh.now shape.now.rect (largest_spacing tech.now shape.now.layer))) cells.old cells.new) }
     ensures proper { OnOk result (IsProper shape.now.rect) }
 {
-    let area = cells_near(mesh, &shape.rect, spacing(tech, shape.layer));
+    let area = cells_near(mesh, &shape.rect, tech.largest_spacing(shape.layer));
     add_to_area(cells, shape.layer.0, area, number)
 }
 

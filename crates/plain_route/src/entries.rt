@@ -3,7 +3,7 @@ ghost use Rattle.std.specs.Prelude.{◌≡◌, ◌++◌, ◌<◌, length, OnOk, 
 ghost use Rattle.track_graph.specs.Designs.{IsDesign};
 ghost use Rattle.track_graph.specs.Histories.{IsRoutable};
 ghost use Rattle.track_graph.specs.Entries.{pins_of};
-ghost use Rattle.track_graph.specs.NetWalks.{IsRouted};
+ghost use Rattle.track_graph.specs.Conditions.{IsStateOf};
 ghost use Rattle.track_graph.specs.Searches.{IsStart, IsFinish};
 ghost use Rattle.track_graph.specs.States.{net_state};
 ghost use Rattle.plain_route.specs.Stops.{on_wire, ends_of, entries_on, wanted_entries, pin_entries, wire_entries, AreEntries};
@@ -107,9 +107,9 @@ fn net_state(state: &State, net: u32) -> &NetState
 /// standing walks.
 pub fn starts(alloc: Global, design: &Design, state: &State, net: u32) -> Result<Seq<Entry>, Memory>
     requires design { IsDesign design.now }
-    requires routed { IsRouted design.now state.now }
+    requires routed { IsStateOf design.now state.now }
     requires net { IsRoutable design.now net }
-    ensures { IfOk result (AreEntries design.now net (IsStart design.now state.now net)) }
+    ensures { IfOk result (AreEntries design.now net (IsStart design.now net (net_state state.now net))) }
 {
     let standing = net_state(state, net);
     let pins = pins_of(design, net);
@@ -126,9 +126,9 @@ pub fn finishes(
     net: u32,
 ) -> Result<Seq<Entry>, Memory>
     requires design { IsDesign design.now }
-    requires routed { IsRouted design.now state.now }
+    requires routed { IsStateOf design.now state.now }
     requires net { IsRoutable design.now net }
-    ensures { IfOk result (AreEntries design.now net (IsFinish design.now state.now net)) }
+    ensures { IfOk result (AreEntries design.now net (IsFinish design.now net (net_state state.now net))) }
 {
     let standing = net_state(state, net);
     pin_entries(

@@ -9,11 +9,3 @@ pub struct Ground {
     pub vertices: Seq<Vertex>,
     pub obstacles: Obstacles,
 }
-
-/// A place on a track: its level, the line of the track, and how far along it stands.
-#[derive(Clone, Copy)]
-pub struct Place {
-    pub level: u8,
-    pub line: i64,
-    pub position: i64,
-}

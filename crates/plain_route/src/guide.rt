@@ -3,21 +3,9 @@ ghost use Rattle.std.specs.Prelude.{◌≡◌, ◌⊎◌, ◌↔◌, ◌<ℤ◌,
 ghost use Rattle.track_graph.specs.Edges.{EdgeInGuide};
 ghost use Rattle.track_graph.specs.Guide.{InGuide, RunsInGuide};
 ghost use Rattle.rt_base.specs.declared.walk.EdgeKind.TheVariants.{Along};
-ghost use Rattle.track_graph.specs.Searches.{guide_of};
 ghost use Rattle.plain_route.specs.Ground.{Reaches, CoversAll};
 
 use rt_base::{Edge, EdgeKind, Point, Rect, Vertex};
-use track_graph::Design;
-
-/// The boxes of a net's guide, none where there is no such net.
-pub fn guide_of(design: &Design, net: u32) -> &[(u8, Rect)]
-    ensures { result.now ≡ guide_of design.now net }
-{
-    match design.nets.as_slice().get(net as usize) {
-        Some(net) => net.guide.as_slice(),
-        None => &[],
-    }
-}
 
 /// The upper right corner of a box of the level that holds the point, `None` where none does.
 fn reach(guide: &[(u8, Rect)], level: u8, p: Point) -> Option<Point>

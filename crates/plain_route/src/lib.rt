@@ -7,7 +7,6 @@ mod cells;
 mod entries;
 mod ground;
 mod guide;
-mod lines;
 mod obstacles;
 mod rows;
 mod steps;

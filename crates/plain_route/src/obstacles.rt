@@ -2,10 +2,10 @@
 ghost use Rattle.std.specs.Prelude.{◌≡◌, ◌<◌, length, fold, flat_map, All, OnOk, IfOk};
 ghost use Rattle.rt_base.specs.declared.tech.Shape.{Shape as OfShape};
 ghost use Rattle.track_graph.specs.Designs.{IsDesign};
-ghost use Rattle.track_graph.specs.NetWalks.{IsNetWalk, IsRouted};
-ghost use Rattle.track_graph.specs.Rules.{every_net};
-ghost use Rattle.track_graph.specs.Searches.{hard_reading};
-ghost use Rattle.track_graph.specs.States.{standing_from};
+ghost use Rattle.track_graph.specs.NetWalks.{IsWalkOf};
+ghost use Rattle.track_graph.specs.Readings.{hard_reading};
+ghost use Rattle.track_graph.specs.Conditions.{IsStateOf};
+ghost use Rattle.track_graph.specs.States.{standing_from, every_net};
 ghost use Rattle.track_graph.specs.Walks.{walk_shapes_of};
 ghost use Rattle.plain_route.specs.Cells.{IsSifted};
 ghost use Rattle.plain_route.specs.Obstacles.{added, AreObstacles};
@@ -48,7 +48,7 @@ fn add_walks(
     walks: &[Walk],
 ) -> Result<(), Memory>
     requires design { IsDesign design.now }
-    requires walks { All (IsNetWalk design.now owner) walks.now }
+    requires walks { All (IsWalkOf design.now owner) walks.now }
     ensures { OnOk result (kept.new ≡ fold (added design.now.tech net) kept.old (flat_map (walk_shapes_of design.now owner) walks.now)) }
 {
     for walk in walks {
@@ -67,7 +67,7 @@ fn add_standing(
     net: u32,
 ) -> Result<(), Memory>
     requires design { IsDesign design.now }
-    requires routed { IsRouted design.now state.now }
+    requires routed { IsStateOf design.now state.now }
     ensures { OnOk result (kept.new ≡ fold (added design.now.tech net) kept.old (standing_from design.now every_net 0 state.now.nets)) }
 {
     for (owner, standing) in state.nets.as_slice().iter().enumerate() {
@@ -86,7 +86,7 @@ fn add_standing(
 /// The shapes that may forbid the net's.
 fn forbidding(alloc: Global, design: &Design, state: &State, net: u32) -> Result<Seq<Shape>, Memory>
     requires design { IsDesign design.now }
-    requires routed { IsRouted design.now state.now }
+    requires routed { IsStateOf design.now state.now }
     ensures layers { IfOk result (λ kept. All (λ (b : OfShape). b.layer.0 < length design.now.tech.layers) kept) }
     ensures obstacles { IfOk result (λ kept. AreObstacles design.now.tech net (hard_reading design.now state.now).forbidding kept) }
 {
@@ -104,7 +104,7 @@ pub fn obstacles(
     net: u32,
 ) -> Result<Obstacles, Memory>
     requires design { IsDesign design.now }
-    requires routed { IsRouted design.now state.now }
+    requires routed { IsStateOf design.now state.now }
     ensures sifted { IfOk result (IsSifted design.now.tech) }
     ensures obstacles { IfOk result (λ o. AreObstacles design.now.tech net (hard_reading design.now state.now).forbidding o.kept) }
 {

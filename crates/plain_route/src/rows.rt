@@ -6,13 +6,13 @@ ghost use Rattle.plain_route.specs.Rows.{tag_of, kind_of, AddsLink, AreLinks, Is
 
 use crate::cells::meets_any;
 use crate::ground::Ground;
-use crate::guide::{guide_of, is_edge_in_guide};
+use crate::guide::is_edge_in_guide;
 use crate::steps::steps;
 use crate::vertices::number_of;
 use least_walk::Link;
 use rt_base::{Edge, EdgeKind, Memory, Seq, Vertex};
 use std::alloc::Global;
-use track_graph::{Design, edge_cost, edge_shapes, is_edge};
+use track_graph::{Design, edge_cost, edge_shapes, guide_of, is_edge};
 
 /// The tag of an edge's link: 0 along a track, and the via's number plus 1.
 fn tag_of(kind: EdgeKind) -> u64

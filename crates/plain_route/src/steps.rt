@@ -5,25 +5,20 @@ ghost use Rattle.track_graph.specs.Edges.{IsEdge};
 ghost use Rattle.track_graph.specs.Levels.{track_system_of};
 ghost use Rattle.plain_route.specs.Steps.{along_edge, by_via, HasNeighbours, HasAbove, HasBelow, HasVia, HasVias};
 
-use crate::ground::Place;
-use crate::lines::{next_above, next_below};
-use crate::vertices::vertex_on;
 use rt_base::{Edge, EdgeKind, Memory, Seq, Tech, Vertex, Via};
 use std::alloc::Global;
-use track_graph::{Design, along_of, level_lines, line_at, lines_under};
+use track_graph::{
+    Design, along_of, level_lines, line_at, lines_under, next_above, next_below, vertex_at,
+};
 
 /// The edge along the track of a vertex to a position.
 fn along_edge(tech: &Tech, v: Vertex, position: i64) -> Edge
     ensures { result ≡ along_edge tech.now v position }
 {
-    let place = Place {
-        level: v.level,
-        line: line_at(tech, v.level, v.point),
-        position,
-    };
+    let line = line_at(tech, v.level, v.point);
     Edge {
         kind: EdgeKind::Along,
-        to: vertex_on(tech, place),
+        to: vertex_at(tech, v.level, line, position),
     }
 }
 

@@ -7,12 +7,12 @@ ghost use Rattle.plain_route.specs.Stops.{AreNetEntries, AddsStop, AreStops};
 
 use crate::cells::meets_any;
 use crate::ground::Ground;
-use crate::guide::{guide_of, is_in_guide};
+use crate::guide::is_in_guide;
 use crate::vertices::number_of;
 use least_walk::Stop;
 use rt_base::{Entry, Memory, Seq};
 use std::alloc::Global;
-use track_graph::{Design, entry_cost, entry_shapes};
+use track_graph::{Design, entry_cost, entry_shapes, guide_of};
 
 /// Whether a legal walk may start or finish at the entry.
 fn is_open(alloc: Global, design: &Design, ground: &Ground, entry: &Entry) -> Result<bool, Memory>

@@ -1,46 +1,13 @@
 //! The vertices in a net's guide, and their numbers.
 ghost use Rattle.std.specs.Prelude.{◌≡◌, ⊤, Contains, OnOk, IfOk, IfSome, IfNone, Some, slice_get};
 ghost use Rattle.track_graph.specs.Designs.{IsDesign};
-ghost use Rattle.track_graph.specs.Levels.{is_horizontal};
-ghost use Rattle.plain_route.specs.Vertices.{IsAscending, AreVertices, HasVertices, vertex_on, ranges_of, IsOnLine, IsOnLines, Finds};
+ghost use Rattle.plain_route.specs.Vertices.{IsAscending, AreVertices, HasVertices, ranges_of, IsOnLine, IsOnLines, Finds};
 
-use crate::ground::Place;
-use crate::guide::guide_of;
-use crate::lines::within;
-use rt_base::{Memory, Point, Rect, Seq, Span, Tech, Vertex};
+use rt_base::{Memory, Rect, Seq, Span, Tech, Vertex};
 use std::alloc::Global;
-use track_graph::{Design, is_vertex, level_layer, level_lines, lines_under};
-
-/// Whether a level's tracks run in x; false where there is no such level.
-pub fn is_horizontal(tech: &Tech, level: u8) -> bool
-    ensures { result ≡ is_horizontal tech.now level }
-{
-    match level_layer(tech, level) {
-        Some((_, layer)) => layer.horizontal,
-        None => false,
-    }
-}
-
-/// The vertex at a place on a track.
-pub fn vertex_on(tech: &Tech, place: Place) -> Vertex
-    ensures { result ≡ vertex_on tech.now place }
-{
-    let point = if is_horizontal(tech, place.level) {
-        Point {
-            x: place.position,
-            y: place.line,
-        }
-    } else {
-        Point {
-            x: place.line,
-            y: place.position,
-        }
-    };
-    Vertex {
-        level: place.level,
-        point,
-    }
-}
+use track_graph::{
+    Design, guide_of, is_level_horizontal, is_vertex, level_lines, lines_in, lines_under, vertex_at,
+};
 
 /// Adds a vertex if it is one of the design's and lies in the box.
 fn add_vertex(
@@ -76,12 +43,8 @@ fn add_on_line(
     ensures { OnOk result (Finds design.now b.now (IsOnLine design.now.tech line positions.now) found.old found.new) }
 {
     for position in positions {
-        let place = Place {
-            level: b.0,
-            line,
-            position: *position,
-        };
-        add_vertex(found, design, b, vertex_on(&design.tech, place))?;
+        let v = vertex_at(&design.tech, b.0, line, *position);
+        add_vertex(found, design, b, v)?;
     }
     Ok(())
 }
@@ -115,7 +78,7 @@ fn ranges(tech: &Tech, level: u8, rect: &Rect) -> (Span, Span)
         lo: rect.yl,
         hi: rect.yh,
     };
-    if is_horizontal(tech, level) {
+    if is_level_horizontal(tech, level) {
         (x, y)
     } else {
         (y, x)
@@ -129,10 +92,10 @@ fn add_in_box(found: &mut Seq<Vertex>, design: &Design, b: &(u8, Rect)) -> Resul
 {
     let (along, across) = ranges(&design.tech, b.0, &b.1);
     let level = b.0 as usize;
-    let lines = within(level_lines(&design.tracks, level), across);
-    let under = within(lines_under(&design.tracks, level), along);
+    let lines = lines_in(level_lines(&design.tracks, level), across);
+    let under = lines_in(lines_under(&design.tracks, level), along);
     add_on_lines(found, design, b, lines, under)?;
-    let over = within(level_lines(&design.tracks, level + 1), along);
+    let over = lines_in(level_lines(&design.tracks, level + 1), along);
     add_on_lines(found, design, b, lines, over)
 }
 

@@ -23,13 +23,12 @@ use Rattle.track_graph.specs.Metal.{via_name_of}
 use Rattle.track_graph.specs.Designs.{IsDesign}
 use Rattle.track_graph.specs.Histories.{IsRoutable, IsHistory}
 use Rattle.track_graph.specs.Levels.{TrackSystem}
-use Rattle.track_graph.specs.NetWalks.{IsRouted}
+use Rattle.track_graph.specs.Conditions.{IsStateOf}
 use Rattle.track_graph.specs.States.{net_state, state_of}
 use Rattle.track_graph.specs.Strokes.{walk_strokes}
 use Rattle.pin_access.specs.EntryOrder.{system_of}
-use Rattle.ripup.proofs.HistoryLemmas.{IsHistory-routed}
+use Rattle.track_graph.proofs.BlockLemmas.{history-kept}
 use Rattle.lef_text.specs.IsLef.{IsLef}
-use Rattle.lef_text.specs.Lef.{lef as lef_form}
 use Rattle.def_text.specs.declared.def.Def.{Def}
 use Rattle.def_text.specs.declared.def.DefNet.{DefNet}
 use Rattle.def_text.specs.declared.def.DefVia.{DefVia}
@@ -43,26 +42,25 @@ use Rattle.build.specs.Built.{IsNetOf, IsTechOf, kind_of}
 use Rattle.build.specs.Inputs.{Input}
 use Rattle.build.specs.Refusals.{Gives}
 use Rattle.build.specs.Wires.{tech_said, wiring_tech}
-use Rattle.build.proofs.DesignLemmas.{AllZip-second}
-use Rattle.written.specs.Cuts.{Cut, IsPlainWord}
+use Rattle.build.proofs.Zips.{AllZip-second}
+use Rattle.written.specs.Cuts.{Cut}
 use Rattle.written.specs.Words.{option_words}
 use Rattle.def_again.specs.Again.{IsClose, IsOption, IsAgain, IsNetAgain, range_words, range_behind}
 use Rattle.def_again.specs.Reread.{IsReread}
 use Rattle.def_again.proofs.Reading.{reread}
 use Rattle.out_words.specs.Added.{added_from, IsNetCut}
 use Rattle.out_words.proofs.Splices.{routed_words}
-use Rattle.lef_words.proofs.Names.{plain_names}
 use Rattle.wire_cover.specs.GoodStrokes.{IsGoodStroke, AreViasOrdered}
 use Rattle.wire_cover.proofs.Covering.{cover_same, cover_trans}
 use Rattle.wire_cover.proofs.NetWiring.{net_wiring_covers}
 use Rattle.wire_words.specs.Readable.{IsReadable}
 use Rattle.read_back.specs.ReadBack.{IsReadBack, IsShown, StatesWires, with_def, standing_metal}
-use Rattle.read_back.proofs.Lists.{zip_first, zip_left, all_named}
+use Rattle.read_back.proofs.Lists.{zip_first, zip_left}
 use Rattle.read_back.proofs.Near.{design_near}
 use Rattle.read_back.proofs.Standing.{none_stand}
 use Rattle.read_back.proofs.Stating.{option_ok, stated, wired}
-use Rattle.read_back.proofs.Strokes.{net_good, net_plain, readable, none_further, is_read_by, NoneNamed}
-use Rattle.read_back.proofs.Technology.{none_named, names_said, via_stands}
+use Rattle.read_back.proofs.Strokes.{net_walks, net_good, net_plain, readable, none_further, is_read_by, NoneNamed}
+use Rattle.read_back.proofs.Technology.{none_named, via_stands}
 
 -- the nets of DEF and of the design close at the same places
 net_cuts : (i : Input) (g : TrackSystem) (said : List DefNet) (nets : List Net) (cuts : List Cut) → AllZip (IsNetOf i g) said nets → AllZip IsClose said cuts → AllZip IsNetCut nets cuts
@@ -143,12 +141,12 @@ net_stated i options d blocks text tokens e given same n net is routable shown =
     let again : Input = with_def i text tokens e in
     let reader : Tech = wiring_tech again in
     let further : List Via = values (map (via_said (tech_said i.lef) text tokens) e.vias) in
-    let routed : IsRouted d s = IsHistory-routed d blocks given.design given.history in
+    let routed : IsStateOf d s = history-kept d blocks given.design given.history in
     let near = design_near i options d given.is_def given.gives in
-    let of : IsTechOf i.lef d.tech = given.gives.design.tech in
+    let of : IsTechOf i d.tech = given.gives.design.tech in
     let strokes : List Stroke = net_strokes d s n in
     let read : All (IsReadable reader d.tech) strokes = readable d.tech reader i.lef.vias further strokes given.design.tech
-    (is_read_by i.lef d.tech reader further given.is_lef of refl refl) (net_good d s n given.design near routed) (shown_none i d.tech text tokens e.vias strokes shown) in
+    (is_read_by i d.tech reader further given.is_lef of refl refl) (net_good d s n given.design near routed) (shown_none i d.tech text tokens e.vias strokes shown) in
     let pair = AllZip-second _ (zip i.def.nets (added_from d s 0 d.nets)) e.nets n net same.nets is in
     let counts : length i.def.nets ≡ length d.nets = sym (AllZip-long (IsNetOf i g) i.def.nets d.nets given.gives.design.nets) in
     let said = zip_left i.def.nets (added_from d s 0 d.nets) n pair.0 pair.1 in
@@ -162,26 +160,23 @@ net_stated i options d blocks text tokens e given same n net is routable shown =
     record {
       wired = wired reader d.tech text tokens net.wiring strokes read ranges;
       covers = cover_trans _ _ (standing_metal d s n) (cover_same _ _ (stated reader d.tech text tokens net.wiring strokes read ranges))
-          (net_wiring_covers reader d n (net_state s n).walks given.design near given.ordered (sym of.layers) (via_stands again d.tech of) (routed.walks n));
+          (net_wiring_covers reader d n (net_state s n).walks given.design near given.ordered (sym of.layers) (via_stands i again d.tech of refl) (net_walks d n (net_state s n).walks (routed.walks n)));
     }
 
-pub read_back : (units : ℕ) (lef_text : List ℕ) (lef_tokens : List Token) (i : Input) (options : Options) (d : Design) (blocks : List Block)
-    → IsCutInto lef_text lef_tokens → IsText (lef_form units) lef_text lef_tokens i.lef → IsCutInto i.text i.tokens → IsText def_form i.text i.tokens i.def
-    → IsGiven i options d blocks → IsReadBack i d (state_of d blocks)
-read_back units lef_text lef_tokens i options d blocks lef_cut lef_says cut says given =
+pub read_back : (i : Input) (options : Options) (d : Design) (blocks : List Block)
+    → IsCutInto i.text i.tokens → IsText def_form i.text i.tokens i.def → IsGiven i options d blocks → IsReadBack i d (state_of d blocks)
+read_back i options d blocks cut says given =
     let s : State = state_of d blocks in
     let out : List ℕ = routed_def i.text d s in
-    let of : IsTechOf i.lef d.tech = given.gives.design.tech in
-    let names = plain_names units lef_text lef_tokens i.lef lef_cut lef_says in
-    let vias = all_named IsPlainWord (λ (v : Via). v.name) (λ (v : Via). v.name) i.lef.vias d.tech.vias (names_said d.tech i.lef.vias d.tech.vias of.vias) names.1 in
-    let routed : IsRouted d s = IsHistory-routed d blocks given.design given.history in
+    let of : IsTechOf i d.tech = given.gives.design.tech in
+    let routed : IsStateOf d s = history-kept d blocks given.design given.history in
     let good : (n : ℕ) → All (IsGoodStroke d.tech) (net_strokes d s n) = λ n. net_good d s n given.design (design_near i options d given.is_def given.gives) routed in
     let own : Tech = tech_said i.lef in
-    let read_by = is_read_by i.lef d.tech own [] given.is_lef of refl (sym (append-nil i.lef.vias)) in
+    let read_by = is_read_by i d.tech own [] given.is_lef of refl (sym (append-nil i.lef.vias)) in
     let option : (n : ℕ) → IsOption (option_words d.tech (net_strokes d s n)) = λ n. option_ok own d.tech (net_strokes d s n) (readable d.tech own i.lef.vias [] (net_strokes d s n) given.design.tech read_by (good n) (none_further d.tech (net_strokes d s n))) in
     let r : IsReread (places i.text i.tokens) i.def = reread (places i.text i.tokens) (last_line i.tokens) i.def says in
     let cuts = net_cuts i (system_of d.tech d.tracks i.def.die) i.def.nets d.nets r.cuts given.gives.design.nets r.closes in
-    let w = routed_words i.text i.tokens d s r.cuts r.last cut r.whole cuts (λ n. net_plain d s n (rw of.layers names.0) vias (good n)) in
+    let w = routed_words i.text i.tokens d s r.cuts r.last cut r.whole cuts (λ n. net_plain d s n given.design.names (good n)) in
     let again = r.again (added_from d s 0 d.nets) (added_count d s 0 d.nets r.cuts cuts) (added_ok d s 0 d.nets option) (places out w.0) (last_line w.0) w.2 in
     record {
       closes = given.closes;

@@ -10,14 +10,12 @@ use Rattle.track_graph.specs.declared.history.Block.{Block}
 use Rattle.track_graph.specs.declared.history.Block.TheVariants.{Wire, Stuck, RipFor}
 use Rattle.track_graph.specs.declared.history.NetState.{NetState}
 use Rattle.track_graph.specs.declared.history.State.{State}
-use Rattle.track_graph.specs.Conditions.{IsNetOf}
+use Rattle.track_graph.specs.Conditions.{IsNetOf, IsStateOf}
 use Rattle.track_graph.specs.Designs.{IsDesign}
 use Rattle.track_graph.specs.Histories.{IsRoutable, IsRight, IsHistory, IsHistoryFrom}
-use Rattle.track_graph.specs.NetWalks.{IsRouted}
 use Rattle.track_graph.specs.States.{after, emptied, emptied_net, first_state, fresh, net_state, with_net, state_of}
-use Rattle.track_graph.proofs.StateLemmas.{blank, net_state-same, net_state-other}
-use Rattle.ripup.proofs.BlockLemmas.{crossed-nets_of}
-use Rattle.ripup.proofs.RoutedLemmas.{after-routed, first-routed}
+use Rattle.track_graph.proofs.StateLemmas.{blank, first-kept, net_state-same, net_state-other}
+use Rattle.track_graph.proofs.BlockLemmas.{crossed-nets_of, after-kept, right-block_of}
 
 -- no walk stands of a net that isn't routed
 abbrev RoutedAlone : Design → State → Type 0
@@ -40,16 +38,17 @@ emptied_alone d s (n ∷ ns) within h =
     (λ (other : m ≡ n → ⊥). ap (λ (x : NetState). x.walks) (net_state-other s n m net other) ∙ h m not_routed)
     (cases_eq m n))
 
-after_alone : (d : Design) (s : State) (b : Block) → IsRouted d s → IsRight d s b → RoutedAlone d s → RoutedAlone d (after s b)
-after_alone d s (Wire n w) routed right h = other_net d s n _ right.waiting.routable h
-after_alone d s (Stuck n) routed right h = other_net d s n _ right.waiting.routable h
-after_alone d s (RipFor n soft ripped w) routed right h =
-    let nets : All (IsNetOf d) ripped = subst (λ (ns : List ℕ). All (IsNetOf d) ns) (sym right.ripped_exactly) (crossed-nets_of d s n soft routed.state) in
-    other_net d (emptied s ripped) n _ right.waiting.routable (emptied_alone d s ripped (subst (λ (k : ℕ). All (λ m. m < k) ripped) (sym routed.state.nets) nets) h)
+after_alone : (d : Design) (s : State) (b : Block) → IsStateOf d s → IsRight d s b → RoutedAlone d s → RoutedAlone d (after s b)
+after_alone d s (Wire n w) of_design right h = other_net d s n _ right.waiting.routable h
+after_alone d s (Stuck n) of_design right h = other_net d s n _ right.waiting.routable h
+after_alone d s (RipFor n soft ripped w) of_design right h =
+    let nets : All (IsNetOf d) ripped = subst (λ (ns : List ℕ). All (IsNetOf d) ns) (sym right.ripped_exactly) (crossed-nets_of d s n soft of_design) in
+    other_net d (emptied s ripped) n _ right.waiting.routable (emptied_alone d s ripped (subst (λ (k : ℕ). All (λ m. m < k) ripped) (sym of_design.nets) nets) h)
 
-history_alone : (d : Design) (s : State) (bs : List Block) → IsDesign d → IsRouted d s → IsHistoryFrom d s bs → RoutedAlone d s → RoutedAlone d (fold after s bs)
-history_alone d s [] ok routed h alone = alone
-history_alone d s (b ∷ bs) ok routed h alone = history_alone d (after s b) bs ok (after-routed d s b ok routed h.0) h.1 (after_alone d s b routed h.0 alone)
+history_alone : (d : Design) (s : State) (bs : List Block) → IsDesign d → IsStateOf d s → IsHistoryFrom d s bs → RoutedAlone d s → RoutedAlone d (fold after s bs)
+history_alone d s [] ok of_design h alone = alone
+history_alone d s (b ∷ bs) ok of_design h alone =
+    history_alone d (after s b) bs ok (after-kept d s b of_design (right-block_of d s b ok of_design h.0)) h.1 (after_alone d s b of_design h.0 alone)
 
 fresh_none : (o : Option Net) → (unwrap_or (option_map fresh o) blank).walks ≡ []
 fresh_none None = refl
@@ -57,5 +56,5 @@ fresh_none (Some net) = refl
 
 pub none_stand : (d : Design) (blocks : List Block) → IsDesign d → IsHistory d blocks → (n : ℕ) → (IsRoutable d n → ⊥) → (net_state (state_of d blocks) n).walks ≡ []
 none_stand d blocks ok h =
-    history_alone d (first_state d) blocks ok (first-routed d) h
+    history_alone d (first_state d) blocks ok (first-kept d) h
     (λ n not_routed. ap (λ (o : Option NetState). (unwrap_or o blank).walks) (slice_get-map fresh d.nets n) ∙ fresh_none (slice_get d.nets n))

@@ -1,7 +1,7 @@
--- The technology of wiring: LEF's layers and vias, and behind these the vias of DEF.
+-- The technology of wiring: LEF's layers and vias, and after these the vias of DEF.
 use Rattle.std.proofs.Common.{◌≡◌, ◌≢◌, false, ℕ, zero, suc, List, [], ◌∷◌, ◌++◌, Some, Result, Ok, Err, All, IsTrue, Contains, refl, sym, ap, ◌∙◌, map, slice_get, arith}
-use Rattle.std.specs.List.{AllZip}
 use Rattle.std.proofs.lemmas.List.Elements.{All-nil, All-cons}
+use Rattle.lef_text.specs.declared.lef.Lef.{Lef}
 use Rattle.rt_base.specs.declared.tech.Tech.{Tech}
 use Rattle.rt_base.specs.declared.tech.Via.{Via}
 use Rattle.rt_base.specs.declared.token.Token.{Token}
@@ -13,10 +13,10 @@ use Rattle.def_wires.specs.Faults.{wire_faults}
 use Rattle.def_wires.specs.Vias.{named_via, via_form}
 use Rattle.def_wires.proofs.ViaGrammar.{lawful_via_form}
 use Rattle.fixed_wires.specs.FixedWires.{range_of, values, via_said}
-use Rattle.build.specs.Built.{IsViaOfLef, IsTechOf}
+use Rattle.build.specs.Built.{IsTechOf}
 use Rattle.build.specs.Inputs.{Input}
 use Rattle.build.specs.Wires.{tech_said, wiring_tech}
-use Rattle.build.proofs.DesignLemmas.{AllZip-second}
+use Rattle.build.proofs.UsableVias.{usable_said}
 
 -- a via of DEF has the name that DEF gives it
 said_name : (tech : Tech) (text : List ℕ) (tokens : List Token) (v : DefVia) (u : Via) → via_said tech text tokens v ≡ Ok u → u.name ≡ v.name
@@ -39,26 +39,14 @@ none_named tech text tokens name (v ∷ vias) not_there = by_said (via_said tech
     by_said (Ok u) is others = All-cons (λ (x : Via). x.name ≢ name) u _ (λ e. not_there (0, omega arith, sym (is u refl) ∙ e)) others
     by_said (Err e) is others = others
 
--- names and rectangles of the design's vias are LEF's
-pub names_said : (tech : Tech) (said vias : List Via) → AllZip (IsViaOfLef tech) said vias → map (λ (v : Via). v.name) said ≡ map (λ (v : Via). v.name) vias
-names_said tech [] [] h = refl
-names_said tech [] (v ∷ vias) h = absurd h
-names_said tech (s ∷ said) [] h = absurd h
-names_said tech (s ∷ said) (v ∷ vias) h = rw (h.0.name, names_said tech said vias h.1) refl
-
-pub rects_said : (tech : Tech) (said vias : List Via) → AllZip (IsViaOfLef tech) said vias → map (λ (v : Via). v.rects) said ≡ map (λ (v : Via). v.rects) vias
-rects_said tech [] [] h = refl
-rects_said tech [] (v ∷ vias) h = absurd h
-rects_said tech (s ∷ said) [] h = absurd h
-rects_said tech (s ∷ said) (v ∷ vias) h = rw (h.0.rects, rects_said tech said vias h.1) refl
-
 get_first : {A : Type 0} (xs ys : List A) (k : ℕ) (x : A) → slice_get xs k ≡ Some x → slice_get (xs ++ ys) k ≡ Some x
 get_first [] ys k x h = absurd cc
 get_first (z ∷ xs) ys zero x h = h
 get_first (z ∷ xs) ys (suc k) x h = get_first xs ys k x h
 
--- wiring means the design's vias by their numbers
-pub via_stands : (i : Input) (tech : Tech) → IsTechOf i.lef tech → (k : ℕ) (v : Via) → slice_get tech.vias k ≡ Some v → IsTrue v.usable → (u : Via) × (slice_get (wiring_tech i).vias k ≡ Some u) × (u.rects ≡ v.rects)
-via_stands i tech h k v is usable =
-    let said = AllZip-second (IsViaOfLef tech) i.lef.vias tech.vias k v h.vias is in
-    (said.0, get_first i.lef.vias (values (map (via_said (tech_said i.lef) i.text i.tokens) i.def.vias)) k said.0 said.1, sym said.2.rects)
+-- wiring means the design's usable vias by their numbers, with whatever further vias
+pub via_stands : (i again : Input) (tech : Tech) → IsTechOf i tech → again.lef ≡ i.lef → (k : ℕ) (v : Via) → slice_get tech.vias k ≡ Some v → IsTrue v.usable → (u : Via) × (slice_get (wiring_tech again).vias k ≡ Some u) × (u.rects ≡ v.rects)
+via_stands i again tech h same k v is usable =
+    let said = usable_said i tech h k v is usable in
+    let at : slice_get again.lef.vias k ≡ Some said.0 = ap (λ (l : Lef). slice_get l.vias k) same ∙ said.1 in
+    (said.0, get_first again.lef.vias (values (map (via_said (tech_said again.lef) again.text again.tokens) again.def.vias)) k said.0 at, said.3)

@@ -1,9 +1,9 @@
 -- How great the parts of a halo are, and that there is one halo.
-use Rattle.std.proofs.Common.{◌≡◌, ◌⊎◌, ℕ, ◌+◌, ◌*◌, ◌/◌, ◌^◌, ◌≤◌, max, ℤ, pos, negsuc, unsigned_abs, List, slice_get, Option, option_map, unwrap_or, Some, None, All, inl, inr, refl, sym, subst, arith}
+use Rattle.std.proofs.Common.{◌≡◌, ◌⊎◌, ℕ, ◌+◌, ◌*◌, ◌/◌, ◌^◌, ◌≤◌, max, ℤ, pos, negsuc, unsigned_abs, slice_get, Option, option_map, unwrap_or, Some, None, inl, inr, refl, sym, subst, arith}
 use Rattle.std.specs.Int.{int_max}
 use Rattle.std.proofs.lemmas.Int.{ints}
 use Rattle.std.proofs.lemmas.List.Elements.{All-contains}
-use Rattle.std.proofs.lemmas.Option.{slice_get_within, get_or_from_slice_get}
+use Rattle.rt_base.proofs.Lists.{All-at}
 use Rattle.rt_base.specs.Ranges.{IsWithin, IsWidth, AreSidesWithin}
 use Rattle.rt_base.proofs.Ranges.{within-max}
 use Rattle.rt_base.specs.declared.tech.Layer.{Layer}
@@ -15,10 +15,6 @@ use Rattle.track_graph.specs.Metal.{Metal}
 use Rattle.regions.specs.Halo.{IsGreatest, IsHalo, IsShapeReach, IsSpacing, IsStubReach, IsViaReach, half_of, stub_of}
 use Rattle.regions.proofs.Greatest.{greatest_or, greatest_below, greatest_unique}
 
--- what holds of each item holds of the one that is read
-pub all_read : {X : Type 0} → (P : X → Type 0) (xs : List X) (k : ℕ) (x : X) → All P xs → slice_get xs k ≡ Some x → P x
-all_read P xs k x all is = All-contains P xs x all (k, slice_get_within xs k x is, get_or_from_slice_get xs k x x is)
-
 half_from : (w : ℤ) → IsWidth w → unsigned_abs (pos (unsigned_abs w / 2)) ≤ 2 ^ 32
 half_from (pos n) ok = omega (arith, ints, ok.1)
 half_from (negsuc n) ok = absurd (omega (arith, ints, ok.0))
@@ -28,14 +24,14 @@ half_most d ok level = by_layer (slice_get (levels d.tech) level) refl
   where
     by_layer : (o : Option (ℕ × Layer)) → slice_get (levels d.tech) level ≡ o → unsigned_abs (pos (unsigned_abs (unwrap_or (option_map (λ (l : ℕ × Layer). l.1.width) o) (pos 0)) / 2)) ≤ 2 ^ 32
     by_layer None is = omega arith
-    by_layer (Some l) is = half_from l.1.width (all_read (λ (m : ℕ × Layer). IsWidth m.1.width) (levels d.tech) level l ok.tech.widths is)
+    by_layer (Some l) is = half_from l.1.width (All-at (λ (m : ℕ × Layer). IsWidth m.1.width) (levels d.tech) level l ok.tech.widths is)
 
 pub stub_most : (d : Design) → IsDesign d → (level : ℕ) → stub_reach (track_system_of d) level ≤ 2 ^ 33
 stub_most d ok level = by_step (slice_get d.tracks.largest_step level) refl
   where
     by_step : (o : Option ℤ) → slice_get d.tracks.largest_step level ≡ o → 2 * unsigned_abs (unwrap_or o (pos 0)) ≤ 2 ^ 33
     by_step None is = omega arith
-    by_step (Some z) is = omega (arith, all_read (IsWithin (2 ^ 32)) d.tracks.largest_step level z ok.tracks.steps is)
+    by_step (Some z) is = omega (arith, All-at (IsWithin (2 ^ 32)) d.tracks.largest_step level z ok.tracks.steps is)
 
 via_most : (d : Design) → IsDesign d → (v : ℕ) → IsViaReach d v → v ≤ 2 ^ 60 + 2 ^ 30
 via_most d ok v (k, via, lt, at, (usable, (j, r, within, here, is))) =
@@ -56,7 +52,7 @@ spacing_most d n ok g = greatest_below (IsSpacing d) n (2 ^ 32) (λ v h. subst (
   where
     by_layer : (k : ℕ) (o : Option Layer) → slice_get d.tech.layers k ≡ o → unsigned_abs (int_max (unwrap_or (option_map (λ (l : Layer). l.spacing) o) (pos 0)) (pos 1)) ≤ 2 ^ 32
     by_layer k None is = omega arith
-    by_layer k (Some l) is = within-max (2 ^ 32) l.spacing (pos 1) (all_read (λ (m : Layer). IsWithin (2 ^ 32) m.spacing) d.tech.layers k l ok.tech.spacings is) (omega arith)
+    by_layer k (Some l) is = within-max (2 ^ 32) l.spacing (pos 1) (All-at (λ (m : Layer). IsWithin (2 ^ 32) m.spacing) d.tech.layers k l ok.tech.spacings is) (omega arith)
 
 pub halo_most : (d : Design) (halo : ℕ) → IsDesign d → IsHalo d halo → halo ≤ 2 ^ 61
 halo_most d halo ok h = omega (arith, h.halo_is, reach_most d h.reach ok h.reach_is, spacing_most d h.spacing ok h.spacing_is)

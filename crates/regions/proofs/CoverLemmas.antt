@@ -1,5 +1,5 @@
 -- The parts of a line in the boxes of a guide.
-use Rattle.std.proofs.Common.{◌≡◌, ◌⊎◌, ◌↔◌, ℕ, ◌+◌, ◌^◌, ◌<◌, ◌≤◌, ℤ, pos, ◌≤ℤ◌, ◌<ℤ◌, Bool, true, false, cond, List, [], ◌∷◌, ◌++◌, length, get_or, slice_get, take, Option, option_map, unwrap_or, Some, None, All, Any, inl, inr, refl, subst, arith}
+use Rattle.std.proofs.Common.{◌≡◌, ◌⊎◌, ◌↔◌, ℕ, ◌+◌, ◌^◌, ◌<◌, ◌≤◌, ℤ, pos, ◌≤ℤ◌, ◌<ℤ◌, Bool, true, false, cond, List, [], ◌∷◌, ◌++◌, length, get_or, slice_get, take, Option, option_map, unwrap_or, Some, None, All, Any, inl, inr, refl, sym, subst, arith, lit≤}
 use Rattle.std.proofs.lemmas.Int.{ints}
 use Rattle.std.proofs.lemmas.List.{take_all}
 use Rattle.std.proofs.lemmas.List.Elements.{All-push, All-weaker}
@@ -7,7 +7,7 @@ use Rattle.rt_base.specs.Geometry.{Holds}
 use Rattle.rt_base.specs.Ranges.{AreSidesWithin}
 use Rattle.rt_base.specs.Sides.{Sides}
 use Rattle.rt_base.specs.declared.geometry.Span.{Span}
-use Rattle.rt_base.proofs.Ranges.{sides_from_within}
+use Rattle.rt_base.proofs.Ranges.{sides_from_within, sides-weaker}
 use Rattle.track_graph.specs.declared.design.Design.{Design}
 use Rattle.track_graph.specs.declared.design.Net.{Net}
 use Rattle.track_graph.specs.Designs.{IsDesign, IsNet}
@@ -17,8 +17,8 @@ use Rattle.track_graph.specs.Searches.{guide_of}
 use Rattle.regions.specs.declared.cover.Line.{Line}
 use Rattle.regions.specs.Spans.{InSpan, InSpans, AreFull}
 use Rattle.regions.specs.Covered.{point_at, line_on, InBox, IsPart, IsCovered}
-use Rattle.regions.proofs.Bounds.{all_read}
-use Rattle.regions.proofs.Lists.{any_push, any_more, Any-none}
+use Rattle.regions.proofs.Lists.{any_push, any_more}
+use Rattle.rt_base.proofs.Lists.{All-at, Any-none}
 use Rattle.regions.proofs.SpanLemmas.{ends_in}
 
 -- the boxes' parts of a line, as spans
@@ -86,7 +86,12 @@ guide_sides d n ok = by_net (slice_get d.nets n) refl
   where
     by_net : (o : Option Net) → slice_get d.nets n ≡ o → All (λ (box : ℕ × Sides). AreSidesWithin (2 ^ 32) box.1) (unwrap_or (option_map (λ (net : Net). net.guide) o) [])
     by_net None is = λ k d lt. absurd (omega (arith, lt))
-    by_net (Some net) is = (all_read (IsNet (track_system_of d)) d.nets n net ok.nets is).guide
+    by_net (Some net) is = (All-at (IsNet (track_system_of d)) d.nets n net ok.nets is).guide
+
+pub guide_sides_wide : (d : Design) (n : ℕ) (boxes : List (ℕ × Sides)) → IsDesign d → boxes ≡ guide_of d n → All (λ (box : ℕ × Sides). AreSidesWithin (2 ^ 61) box.1) boxes
+guide_sides_wide d n boxes ok is =
+    subst (All (λ (box : ℕ × Sides). AreSidesWithin (2 ^ 61) box.1)) (sym is)
+    (All-weaker (λ (box : ℕ × Sides). AreSidesWithin (2 ^ 32) box.1) (λ (box : ℕ × Sides). AreSidesWithin (2 ^ 61) box.1) (λ box h. sides-weaker (2 ^ 32) (2 ^ 61) box.1 (lit≤ tt) h) (guide_of d n) (guide_sides d n ok))
 
 -- the parts, said of the design
 pub covered_same : (d : Design) (net level : ℕ) (line : ℤ) (in_x : Bool) (at : ℤ) (boxes : List (ℕ × Sides)) (spans : List Span) → boxes ≡ guide_of d net → in_x ≡ is_horizontal d.tech level → at ≡ line → ((z : ℤ) → InSpans spans z ↔ InGuide boxes level (point_at (record { in_x = in_x; at = at }) z)) → (z : ℤ) → InSpans spans z ↔ IsCovered d net level line z

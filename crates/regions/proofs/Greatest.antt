@@ -3,7 +3,8 @@ use Rattle.std.proofs.Common.{◌≡◌, ◌⊎◌, ◌∙◌, ℕ, ◌+◌, ◌
 use Rattle.std.proofs.lemmas.Bool.{cases_lt}
 use Rattle.std.proofs.lemmas.List.{take_all}
 use Rattle.regions.specs.Halo.{IsGreatest}
-use Rattle.regions.proofs.Lists.{any_more, Any-none}
+use Rattle.regions.proofs.Lists.{any_more}
+use Rattle.rt_base.proofs.Lists.{Any-none}
 
 pub greatest_none : (P : ℕ → Type 0) → ((v : ℕ) → P v → ⊥) → IsGreatest P 0
 greatest_none P none = record { most = λ v p. absurd (none v p); taken = inl refl }

@@ -4,3 +4,4 @@ mod Lists
 mod CoverLemmas
 mod SpanLemmas
 pub mod TileLemmas
+mod HandMade

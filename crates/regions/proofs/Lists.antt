@@ -1,22 +1,13 @@
 -- What lists have when one item is added.
-use Rattle.std.proofs.Common.{◌≡◌, ◌⊎◌, ◌↔◌, ◌∙◌, ℕ, zero, suc, ◌+◌, ◌<◌, List, [], ◌∷◌, ◌++◌, length, get_or, take, All, AllPairs, Any, inl, inr, refl, sym, ap, subst, arith}
+use Rattle.std.proofs.Common.{◌≡◌, ◌⊎◌, ◌↔◌, ◌∙◌, ℕ, ◌+◌, ◌<◌, List, [], ◌∷◌, ◌++◌, length, get_or, take, All, AllPairs, Any, inl, inr, refl, sym, ap, subst, arith}
 use Rattle.std.specs.List.Sorted.{IsPermutation}
+use Rattle.rt_base.proofs.Lists.{Any-none, Any-cases, Any-there}
 use Rattle.std.proofs.lemmas.List.{take_more, get_or_push, get_or_append_left, length_push}
 use Rattle.std.proofs.lemmas.List.Sorted.{Contains-permutation}
 
 -- what stands before an item, and the item
 pub next : {X : Type 0} → (xs : List X) (i : ℕ) (x : X) → i < length xs → x ≡ get_or xs i x → take (i + 1) xs ≡ take i xs ++ x ∷ []
 next {X} xs i x within at = take_more xs i x within ∙ ap (λ (y : X). take i xs ++ y ∷ []) (sym at)
-
-pub Any-none : {X : Type 0} → (P : X → Type 0) → Any P [] → ⊥
-Any-none P (k, y, lt, is, h) = omega arith
-
-Any-cases : {X : Type 0} → (P : X → Type 0) (x : X) (xs : List X) → Any P (x ∷ xs) → P x ⊎ Any P xs
-Any-cases P x xs (zero, y, lt, is, h) = inl (subst P (sym is) h)
-Any-cases P x xs (suc k, y, lt, is, h) = inr (k, y, omega arith, is, h)
-
-Any-there : {X : Type 0} → (P : X → Type 0) (x : X) (xs : List X) → Any P xs → Any P (x ∷ xs)
-Any-there P x xs (k, y, lt, is, h) = (suc k, y, omega arith, is, h)
 
 Any-last : {X : Type 0} → (P : X → Type 0) (xs : List X) (x : X) → Any P (xs ++ x ∷ []) → Any P xs ⊎ P x
 Any-last P [] x h =

@@ -1,9 +1,6 @@
 -- Spans that are joined.
-use Rattle.std.proofs.Common.{◌≡◌, ◌⊎◌, ◌↔◌, ℕ, ◌+◌, ◌<◌, ◌≤◌, ℤ, pos, ◌+ℤ◌, ◌≤ℤ◌, ◌<ℤ◌, List, [], ◌∷◌, ◌++◌, length, get_or, take, drop, ◌-◌, false, All, AllPairs, inl, inr, sym, ap, subst, arith}
-use Rattle.std.specs.Ordering.{int_cmp, is_lt, MatchOrdering}
-use Rattle.std.specs.declared.cmp.Ordering.{Ordering}
-use Rattle.std.specs.declared.cmp.Ordering.TheVariants.{Less, Equal, Greater}
-use Rattle.std.specs.Cmp.{int_ranks}
+use Rattle.std.proofs.Common.{◌≡◌, ◌⊎◌, ◌↔◌, ℕ, ◌+◌, ◌<◌, ◌≤◌, ℤ, pos, ◌+ℤ◌, ◌≤ℤ◌, ◌<ℤ◌, List, [], ◌∷◌, ◌++◌, length, get_or, take, drop, ◌-◌, All, AllPairs, inl, inr, sym, ap, subst, arith}
+use Rattle.std.specs.Ordering.{int_cmp, is_lt}
 use Rattle.std.specs.List.Sorted.{IsSortedByKey, IsPermutation}
 use Rattle.std.proofs.lemmas.Cmp.{int_cmp_total}
 use Rattle.std.proofs.lemmas.Int.{ints, clamps, by_lt_z}
@@ -12,6 +9,7 @@ use Rattle.std.proofs.lemmas.List.{take_all, get_or_push, get_or_append_left, le
 use Rattle.std.proofs.lemmas.List.Elements.{All-push, Contains-get_or}
 use Rattle.std.proofs.lemmas.List.Quantifiers.{all_pairs_push}
 use Rattle.std.proofs.lemmas.List.Sorted.{ranks_by, sorted_far, IsPermutation-sym}
+use Rattle.rt_base.proofs.Lists.{at_most_from_cmp}
 use Rattle.rt_base.specs.declared.geometry.Span.{Span}
 use Rattle.regions.specs.Spans.{InSpan, InSpans, AreFull, AreApart, AreSpansOf, both}
 use Rattle.regions.proofs.Lists.{next, any_push, any_moved, all_parts, pairs_parts}
@@ -115,17 +113,8 @@ spans_more first rest i t spans within at h =
     spans_same (λ z. InSpans (first ∷ take i rest) z ⊎ InSpan t z) (InSpans (first ∷ take (i + 1) rest)) spans
     (λ z. subst (λ (xs : List Span). (InSpans (first ∷ take i rest) z ⊎ InSpan t z) ↔ InSpans xs z) (sym e) (let both_ways = in_either (first ∷ take i rest) t z in (both_ways.1, both_ways.0))) h
 
--- the order of a sort
-not_after : (a b : ℤ) → is_lt (int_cmp b a) ≡ false → a ≤ℤ b
-not_after a b h = by_order (int_cmp b a) h (int_ranks b a)
-  where
-    by_order : (o : Ordering) → is_lt o ≡ false → MatchOrdering o (b <ℤ a) (b ≡ a) (a <ℤ b) → a ≤ℤ b
-    by_order Less e r = cc
-    by_order Equal e r = omega (arith, ints)
-    by_order Greater e r = omega (arith, ints)
-
 pub rising_sorted : (spans : List Span) → IsSortedByKey (λ (s : Span). s.lo) int_cmp spans → AllPairs (λ (s t : Span). s.lo ≤ℤ t.lo) spans
-rising_sorted spans up i j d lt h = not_after (get_or spans i d).lo (get_or spans j d).lo (sorted_far (λ (s t : Span). is_lt (int_cmp s.lo t.lo)) (ranks_by int_cmp_total (λ (s : Span). s.lo)) spans up i j d (omega arith) h)
+rising_sorted spans up i j d lt h = at_most_from_cmp (get_or spans i d).lo (get_or spans j d).lo (sorted_far (λ (s t : Span). is_lt (int_cmp s.lo t.lo)) (ranks_by int_cmp_total (λ (s : Span). s.lo)) spans up i j d (omega arith) h)
 
 -- the same spans in another order
 pub spans_moved : (spans moved joined : List Span) → IsPermutation spans moved → AreSpansOf (InSpans moved) joined → AreSpansOf (InSpans spans) joined

@@ -1,5 +1,5 @@
 -- Rows of tiles as spans of their numbers.
-use Rattle.std.proofs.Common.{◌≡◌, ◌⊎◌, ◌↔◌, ◌∙◌, ℕ, ◌+◌, ◌-◌, ◌*◌, ◌/◌, ◌%◌, ◌^◌, ◌<◌, ◌≤◌, ℤ, pos, negsuc, ◌+ℤ◌, ◌≤ℤ◌, ◌<ℤ◌, List, [], ◌∷◌, ◌++◌, length, get_or, take, All, AllPairs, Any, Contains, inl, inr, refl, sym, ap, subst, arith, to_z, of_z, w64, unsigned_abs}
+use Rattle.std.proofs.Common.{◌≡◌, ◌⊎◌, ◌↔◌, ◌∙◌, ℕ, ◌+◌, ◌-◌, ◌*◌, ◌/◌, ◌%◌, ◌^◌, ◌<◌, ◌≤◌, ℤ, pos, negsuc, ◌+ℤ◌, ◌≤ℤ◌, ◌<ℤ◌, List, [], ◌∷◌, ◌++◌, length, get_or, take, Option, option_map, unwrap_or, All, AllPairs, Any, Contains, inl, inr, refl, sym, ap, subst, arith, to_z, of_z, w64, unsigned_abs}
 use Rattle.std.proofs.lemmas.Int.{ints, to_z-of_z}
 use Rattle.std.proofs.lemmas.Bool.{cases_lt}
 use Rattle.std.proofs.lemmas.Nat.{div-mul-add, mod-mul-add, div-add-mod', mul-add-lt}
@@ -19,8 +19,11 @@ use Rattle.regions.specs.Tiles.{IsMet, AddsMet, AreMet, MeetsGuide, IsTileOf}
 use Rattle.regions.proofs.Bounds.{halo_unique}
 use Rattle.regions.proofs.SpanLemmas.{ends_in}
 use Rattle.std.proofs.lemmas.List.Quantifiers.{all_pairs_push}
-use Rattle.track_graph.specs.Metal.{grown}
-use Rattle.regions.proofs.Lists.{any_push, any_more, Any-none}
+use Rattle.rt_base.specs.Geometry.{grown}
+use Rattle.regions.proofs.Lists.{any_push, any_more}
+use Rattle.std.proofs.lemmas.Option.{slice_get_past}
+use Rattle.track_graph.specs.declared.design.Net.{Net}
+use Rattle.rt_base.proofs.Lists.{Any-none, none_in}
 
 -- the numbers of the tiles in these columns of a row
 abbrev pub run : ℕ → ℕ → ℕ → ℕ → Span
@@ -360,4 +363,15 @@ tiles_same d net halo boxes runs maximal slice tiles of_net some is_halo exact h
     back (inl m) =
         let same : m.halo ≡ halo = halo_unique d m.halo halo m.is_halo is_halo in
         again (subst (Any (λ (b : ℕ × Sides). Meets d.grid (grown b.1 (pos halo)) tile)) (sym of_net) (subst (λ (n : ℕ). Any (λ (b : ℕ × Sides). Meets d.grid (grown b.1 (pos n)) tile) (guide_of d net)) same m.boxes))
-    back (inr (none, zero)) = absurd (omega (arith, some, ap (λ (bs : List (ℕ × Sides)). length bs) (of_net ∙ none)))
+    back (inr (has, none, zero)) = absurd (omega (arith, some, ap (λ (bs : List (ℕ × Sides)). length bs) (of_net ∙ none)))
+
+-- a net that the design lacks has no tile
+pub no_tile : (d : Design) (net tile : ℕ) → length d.nets ≤ net → IsTileOf d net tile → ⊥
+no_tile d net tile past (inl m) = Any-none (λ (b : ℕ × Sides). Meets d.grid (grown b.1 (pos m.halo)) tile) (subst (Any (λ (b : ℕ × Sides). Meets d.grid (grown b.1 (pos m.halo)) tile)) no_guide m.boxes)
+  where
+    no_guide : guide_of d net ≡ []
+    no_guide = ap (λ (o : Option Net). unwrap_or (option_map (λ (n : Net). n.guide) o) []) (slice_get_past d.nets net past)
+no_tile d net tile past (inr (has, none, zero)) = absurd (omega (arith, has))
+
+pub no_tiles : (d : Design) (net : ℕ) (tiles : List ℕ) → length d.nets ≤ net → tiles ≡ [] → (tile : ℕ) → Contains tiles tile ↔ IsTileOf d net tile
+no_tiles d net tiles past none tile = (λ c. absurd (none_in tile (subst (λ (ts : List ℕ). Contains ts tile) none c)), λ h. absurd (no_tile d net tile past h))

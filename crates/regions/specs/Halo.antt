@@ -1,6 +1,6 @@
 -- The halo of a design: how far from a net's guide its wires can matter to others (this project's own).
 use Rattle.std.specs.Prelude.{◌≡◌, ◌⊎◌, ℕ, ◌+◌, ◌≤◌, ◌<◌, max, unsigned_abs, IsTrue, Any, length}
-use Rattle.rt_base.specs.Conflict.{spacing_of}
+use Rattle.rt_base.specs.Conflict.{largest_spacing}
 use Rattle.rt_base.specs.Sides.{Sides}
 use Rattle.rt_base.specs.declared.tech.LayerNo.{LayerNo}
 use Rattle.rt_base.specs.declared.tech.Via.{Via}
@@ -44,9 +44,9 @@ IsViaReach d v = Any (λ (via : Via). IsTrue via.usable × IsReachOf via v) d.te
 abbrev pub IsShapeReach : Design → ℕ → Type 0
 IsShapeReach d v = IsWireReach d v ⊎ IsViaReach d v ⊎ IsStubReach d v
 
--- a layer's spacing
+-- the most that two shapes on a layer keep between them
 abbrev pub IsSpacing : Design → ℕ → Type 0
-IsSpacing d v = (layer : LayerNo) × (layer.0 < length d.tech.layers) × (v ≡ spacing_of d.tech layer)
+IsSpacing d v = (layer : LayerNo) × (layer.0 < length d.tech.layers) × (v ≡ largest_spacing d.tech layer)
 
 -- the reach plus the largest spacing of any layer
 pub record IsHalo (d : Design) (halo : ℕ) : Type 0 where

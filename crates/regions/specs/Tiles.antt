@@ -5,7 +5,8 @@ use Rattle.rt_base.specs.Tiles.{Meets}
 use Rattle.rt_base.specs.declared.geometry.Span.{Span}
 use Rattle.rt_base.specs.declared.grid.Grid.{Grid}
 use Rattle.track_graph.specs.declared.design.Design.{Design}
-use Rattle.track_graph.specs.Metal.{grown}
+use Rattle.track_graph.specs.Conditions.{IsNetOf}
+use Rattle.rt_base.specs.Geometry.{grown}
 use Rattle.track_graph.specs.Searches.{guide_of}
 use Rattle.regions.specs.Halo.{IsHalo}
 use Rattle.regions.specs.Spans.{InSpans, AreFull}
@@ -16,9 +17,9 @@ pub record MeetsGuide (d : Design) (net tile : ℕ) : Type 0 where
   pub is_halo : IsHalo d halo
   pub boxes : Any (λ (box : ℕ × Sides). Meets d.grid (grown box.1 (pos halo)) tile) (guide_of d net)
 
--- a net without a box has tile 0 alone
+-- a net of the design without a box has tile 0 alone, and a net that the design lacks has none
 abbrev pub IsTileOf : Design → ℕ → ℕ → Type 0
-IsTileOf d net tile = MeetsGuide d net tile ⊎ ((guide_of d net ≡ []) × (tile ≡ 0))
+IsTileOf d net tile = MeetsGuide d net tile ⊎ (IsNetOf d net × (guide_of d net ≡ []) × (tile ≡ 0))
 
 -- z is the number of a tile that the rectangle meets
 abbrev pub IsMet : Grid → Sides → ℤ → Type 0

@@ -1,34 +1,22 @@
 //! The parts of a track line in the guide of a net.
 ghost use Rattle.std.specs.Prelude.{◌≡◌, ◌<◌, ℤ, ◌≤ℤ◌, ◌↔◌, IfOk, IfSome, IfNone, length};
 ghost use Rattle.rt_base.specs.Geometry.{Holds};
-ghost use Rattle.track_graph.specs.Conditions.{IsNetOf};
 ghost use Rattle.track_graph.specs.Designs.{IsDesign};
 ghost use Rattle.track_graph.specs.Guide.{InGuide};
-ghost use Rattle.track_graph.specs.Levels.{levels, is_horizontal};
+ghost use Rattle.track_graph.specs.Levels.{levels};
 ghost use Rattle.regions.specs.Spans.{InSpan, InSpans, AreFull, AreSpansOf};
 ghost use Rattle.regions.specs.Covered.{point_at, InBox, IsPart, IsCovered};
 
-use crate::guide::guide_of;
 use crate::spans::maximal_spans;
-use rt_base::{Memory, Rect, Span, Tech};
+use rt_base::{Memory, Rect, Span};
 use std::alloc::Global;
-use track_graph::{Design, level_layer};
+use track_graph::{Design, guide_of, is_level_horizontal};
 
 /// A line that runs in x, at a value of y, or in y, at a value of x.
 #[derive(Clone, Copy)]
 pub struct Line {
     pub in_x: bool,
     pub at: i64,
-}
-
-/// Whether a level's tracks run in x; false where there is no such level.
-fn runs_in_x(tech: &Tech, level: u8) -> bool
-    ensures { result ≡ is_horizontal tech.now level }
-{
-    match level_layer(tech, level) {
-        Some((_, layer)) => layer.horizontal,
-        None => false,
-    }
 }
 
 /// The extent of a rectangle along a line, and that across it.
@@ -80,7 +68,8 @@ fn parts(alloc: Global, line: Line, level: u8, guide: &[(u8, Rect)]) -> Result<V
 }
 
 /// The maximal spans of whole numbers along a track line of a level that lie in the net's guide,
-/// ascending: of a line in x they are values of x, else of y, in DEF database units.
+/// ascending: of a line in x they are values of x, else of y, in DEF database units. A net that the
+/// design lacks has none.
 pub fn covered(
     alloc: Global,
     design: &Design,
@@ -89,12 +78,11 @@ pub fn covered(
     line: i64,
 ) -> Result<Vec<Span>, Memory>
     requires design { IsDesign design.now }
-    requires net { IsNetOf design.now net }
     requires level { level < length (levels design.now.tech) }
     ensures { IfOk result (λ v. AreSpansOf (IsCovered design.now net level line) v.items) }
 {
     let line = Line {
-        in_x: runs_in_x(&design.tech, level),
+        in_x: is_level_horizontal(&design.tech, level),
         at: line,
     };
     let parts = parts(alloc, line, level, guide_of(design, net))?;

@@ -3,7 +3,6 @@
 #![tactic(auto)]
 
 mod cover;
-mod guide;
 mod margin;
 mod spans;
 #[cfg(test)]

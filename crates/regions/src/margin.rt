@@ -1,12 +1,11 @@
 //! How far from its guide the wires of a net can matter to others.
-ghost use Rattle.std.specs.Prelude.{◌≡◌, ℕ, ◌<◌, ◌≤◌, ◌^◌, IsTrue, Any, length};
-ghost use Rattle.rt_base.specs.Conflict.{spacing_of};
+ghost use Rattle.std.specs.Prelude.{◌≡◌, ℕ, ◌≤◌, ◌^◌, IsTrue, Any};
 ghost use Rattle.track_graph.specs.Designs.{IsDesign};
 ghost use Rattle.track_graph.specs.Entries.{stub_reach};
 ghost use Rattle.track_graph.specs.Levels.{track_system_of};
 ghost use Rattle.regions.specs.Halo.{IsGreatest, IsHalo, IsShapeReach, IsSpacing, IsStubReach, IsReachOf, half_of, stub_of, farthest};
 
-use rt_base::{LayerNo, Rect, Tech, Via};
+use rt_base::{LayerNo, Rect, Via};
 use track_graph::{Design, level_layer};
 
 /// Half the width of a level's wires, 0 where there is no such level.
@@ -93,33 +92,22 @@ fn reach(design: &Design) -> u64
     vias_reach(design.tech.vias.as_slice()).max(stub_reach(design))
 }
 
-/// A layer's spacing, at least 1.
-fn spacing(tech: &Tech, layer: LayerNo) -> u64
-    requires { layer.0 < length tech.now.layers }
-    ensures { result ≡ spacing_of tech.now layer }
-{
-    tech.layers.as_slice()[layer.0 as usize]
-        .spacing
-        .max(1)
-        .unsigned_abs()
-}
-
-/// The largest spacing of any layer.
+/// The most that two shapes on any layer keep between them.
 fn largest_spacing(design: &Design) -> u64
     requires { IsDesign design.now }
     ensures { IsGreatest (IsSpacing design.now) result }
 {
     let mut most = 0u64;
     for number in 0..design.tech.layers.len() as u32 {
-        most = most.max(spacing(&design.tech, LayerNo(number)));
+        most = most.max(design.tech.largest_spacing(LayerNo(number)));
     }
     most
 }
 
 /// How far, in DEF database units, a net's guide is widened to find the tiles of the net: the
 /// greatest of half a level's width, the largest absolute coordinate of a rectangle of a usable via
-/// and twice a level's largest track step plus half its width, and to this the largest spacing of
-/// any layer. A greatest value over nothing is 0. Takes no memory.
+/// and twice a level's largest track step plus half its width, and to this the most that two shapes
+/// on any layer keep between them. A greatest value over nothing is 0. Takes no memory.
 pub fn halo(design: &Design) -> u64
     requires { IsDesign design.now }
     ensures { IsHalo design.now result }

@@ -1,34 +1,15 @@
 //! The tiles of a net.
 ghost use Rattle.std.specs.Prelude.{◌≡◌, ◌⊎◌, ℕ, ◌+◌, ◌<◌, ◌≤◌, ◌*◌, ◌^◌, ℤ, pos, ◌+ℤ◌, ◌≤ℤ◌, ◌<ℤ◌, ◌↔◌, All, AllPairs, Contains, IfOk, OnOk};
 ghost use Rattle.rt_base.specs.Ranges.{AreSidesWithin};
-ghost use Rattle.rt_base.specs.Tiles.{columns_of, rows_of};
-ghost use Rattle.track_graph.specs.Conditions.{IsNetOf};
 ghost use Rattle.track_graph.specs.Designs.{IsDesign, IsGrid};
-ghost use Rattle.track_graph.specs.Metal.{grown};
 ghost use Rattle.regions.specs.Spans.{InSpan, InSpans, AreFull, AreApart};
 ghost use Rattle.regions.specs.Tiles.{IsTileOf, AddsMet, AreMet};
 
-use crate::guide::guide_of;
 use crate::margin::halo;
 use crate::spans::maximal_spans;
 use rt_base::{Grid, Memory, Rect, Span};
 use std::alloc::Global;
-use track_graph::Design;
-
-/// The rectangle made larger on each side.
-fn widened(rect: Rect, by: i64) -> Rect
-    requires rect { AreSidesWithin (2 ^ 61) rect }
-    requires low { pos 0 ≤ℤ by }
-    requires high { by ≤ℤ pos (2 ^ 61) }
-    ensures { result ≡ grown rect by }
-{
-    Rect {
-        xl: rect.xl - by,
-        yl: rect.yl - by,
-        xh: rect.xh + by,
-        yh: rect.yh + by,
-    }
-}
+use track_graph::{Design, guide_of};
 
 /// The number of the tile in a row and a column.
 fn number(row: u64, columns: u64, column: u64) -> i64
@@ -40,8 +21,7 @@ fn number(row: u64, columns: u64, column: u64) -> i64
 
 /// Adds the numbers of the tiles that a rectangle meets, a span for each row.
 fn add_met(runs: &mut Vec<Span>, grid: &Grid, rect: &Rect) -> Result<(), Memory>
-    requires grid { IsGrid grid.now }
-    requires count { columns_of grid.now * rows_of grid.now < 2 ^ 32 }
+    requires { IsGrid grid.now }
     ensures { OnOk result (AddsMet grid.now rect.now runs.old.items runs.new.items) }
 {
     let columns = grid.columns();
@@ -61,7 +41,6 @@ fn add_met(runs: &mut Vec<Span>, grid: &Grid, rect: &Rect) -> Result<(), Memory>
 /// The numbers of the tiles that these boxes meet when they are widened.
 fn met(alloc: Global, grid: &Grid, boxes: &[(u8, Rect)], halo: u64) -> Result<Vec<Span>, Memory>
     requires grid { IsGrid grid.now }
-    requires count { columns_of grid.now * rows_of grid.now < 2 ^ 32 }
     requires boxes { All (λ b. AreSidesWithin (2 ^ 61) b.1) boxes.now }
     requires halo { halo ≤ 2 ^ 61 }
     ensures full { IfOk result (λ v. AreFull v.items) }
@@ -69,7 +48,7 @@ fn met(alloc: Global, grid: &Grid, boxes: &[(u8, Rect)], halo: u64) -> Result<Ve
 {
     let mut runs = Vec::new(alloc);
     for guide_box in boxes {
-        add_met(&mut runs, grid, &widened(guide_box.1, halo as i64))?;
+        add_met(&mut runs, grid, &guide_box.1.grown(halo as i64))?;
     }
     Ok(runs)
 }
@@ -116,14 +95,15 @@ fn numbers(alloc: Global, runs: &[Span]) -> Result<Vec<u32>, Memory>
 }
 
 /// The tiles that a box of the net's guide meets, whatever its level, when it is widened by the
-/// halo, ascending. A net without a box has tile 0 alone.
+/// halo, ascending. A net without a box has tile 0 alone, and a net that the design lacks has none.
 pub fn tiles_of(alloc: Global, design: &Design, net: u32) -> Result<Vec<u32>, Memory>
-    requires design { IsDesign design.now }
-    requires net { IsNetOf design.now net }
-    requires count { columns_of design.now.grid * rows_of design.now.grid < 2 ^ 32 }
+    requires { IsDesign design.now }
     ensures ascending { IfOk result (λ v. AllPairs (λ s t. s < t) v.items) }
     ensures exact { IfOk result (λ v. (tile : ℕ) → Contains v.items tile ↔ IsTileOf design.now net tile) }
 {
+    if net as usize >= design.nets.len() {
+        return Ok(Vec::new(alloc));
+    }
     let boxes = guide_of(design, net);
     if boxes.is_empty() {
         let mut first = Vec::new(alloc);

@@ -17,9 +17,9 @@ use Rattle.track_graph.specs.declared.history.Block.{Block}
 use Rattle.track_graph.specs.declared.history.Block.TheVariants.{Wire, Stuck, RipFor}
 use Rattle.track_graph.specs.declared.history.NetState.{NetState}
 use Rattle.track_graph.specs.declared.history.State.{State}
-use Rattle.track_graph.specs.Entries.{nearest_point, rect_of}
+use Rattle.rt_base.specs.Geometry.{distance, nearest_point}
+use Rattle.track_graph.specs.Entries.{rect_of}
 use Rattle.track_graph.specs.Histories.{all_joined}
-use Rattle.track_graph.specs.Metal.{distance}
 use Rattle.track_graph.specs.States.{net_state, state_of}
 
 -- the net is to be routed

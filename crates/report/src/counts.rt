@@ -7,7 +7,7 @@ use rt_base::{Memory, Name};
 use track_graph::{Block, Net, NetKind, NetState};
 
 /// The sum, or want of memory where it doesn't fit.
-pub fn sum(a: u64, b: u64) -> Result<u64, Memory>
+pub fn sum(a: u128, b: u128) -> Result<u128, Memory>
     ensures { IfOk result (λ s. s ≡ a + b) }
 {
     match a.checked_add(b) {
@@ -128,23 +128,23 @@ fn block_rips(block: &Block) -> u64
 }
 
 /// How many nets the blocks rip.
-pub fn rips(blocks: &[Block]) -> Result<u64, Memory>
-    ensures { IfOk result (λ n. n ≡ sum_by rips_of blocks.now) }
+pub fn rips(blocks: &[Block]) -> u128
+    ensures { result ≡ sum_by rips_of blocks.now }
 {
     let mut total = 0;
     for block in blocks {
-        total = sum(total, block_rips(block))?;
+        total += u128::from(block_rips(block));
     }
-    Ok(total)
+    total
 }
 
 /// How many statements were skipped.
-pub fn skipped(counts: &[(Name, u32)]) -> Result<u64, Memory>
-    ensures { IfOk result (λ n. n ≡ sum_by (λ c. c.1) counts.now) }
+pub fn skipped(counts: &[(Name, u32)]) -> u128
+    ensures { result ≡ sum_by (λ c. c.1) counts.now }
 {
     let mut total = 0;
     for count in counts {
-        total = sum(total, u64::from(count.1))?;
+        total += u128::from(count.1);
     }
-    Ok(total)
+    total
 }

@@ -13,7 +13,7 @@ use rt_text::Text;
 use track_graph::{Block, Design, Net, NetState, State};
 
 /// A word, a space and a number, on a line.
-fn count_line(text: &mut Text, word: &[u8], count: u64) -> Result<(), Memory>
+fn count_line(text: &mut Text, word: &[u8], count: u128) -> Result<(), Memory>
     ensures { OnOk result (text.new ≡ text.old ++ count_line word.now count) }
 {
     text.bytes(word)?;
@@ -40,7 +40,7 @@ fn skipped_line(text: &mut Text, count: &(Name, u32)) -> Result<(), Memory>
         return Ok(());
     }
     text.bytes(b"skipped-in ")?;
-    count_line(text, count.0.bytes(), u64::from(count.1))
+    count_line(text, count.0.bytes(), u128::from(count.1))
 }
 
 /// Nothing unless the net is to be routed and has a pin that isn't joined.
@@ -95,20 +95,20 @@ fn joined_line(text: &mut Text, nets: &[Net], states: &[NetState]) -> Result<(),
     requires { length nets.now ≡ length states.now }
     ensures { OnOk result (text.new ≡ text.old ++ count_line (codes "joined") (count_by is_done (zip nets.now states.now))) }
 {
-    count_line(text, b"joined", done_count(nets, states) as u64)
+    count_line(text, b"joined", done_count(nets, states) as u128)
 }
 
 fn stuck_line(text: &mut Text, nets: &[Net], states: &[NetState]) -> Result<(), Memory>
     requires { length nets.now ≡ length states.now }
     ensures { OnOk result (text.new ≡ text.old ++ count_line (codes "stuck") (count_by is_open (zip nets.now states.now))) }
 {
-    count_line(text, b"stuck", open_count(nets, states) as u64)
+    count_line(text, b"stuck", open_count(nets, states) as u128)
 }
 
 fn rips_line(text: &mut Text, blocks: &[Block]) -> Result<(), Memory>
     ensures { OnOk result (text.new ≡ text.old ++ count_line (codes "rips") (sum_by rips_of blocks.now)) }
 {
-    count_line(text, b"rips", rips(blocks)?)
+    count_line(text, b"rips", rips(blocks))
 }
 
 fn wire_line(text: &mut Text, design: &Design, states: &[NetState]) -> Result<(), Memory>
@@ -126,7 +126,7 @@ fn vias_line(text: &mut Text, states: &[NetState]) -> Result<(), Memory>
 fn all_skipped_line(text: &mut Text, counts: &[(Name, u32)]) -> Result<(), Memory>
     ensures { OnOk result (text.new ≡ text.old ++ count_line (codes "skipped") (sum_by (λ c. c.1) counts.now)) }
 {
-    count_line(text, b"skipped", skipped(counts)?)
+    count_line(text, b"skipped", skipped(counts))
 }
 
 /// How many nets there are, and how many of them are joined or stuck.
@@ -134,7 +134,7 @@ fn route_counts(text: &mut Text, nets: &[Net], states: &[NetState]) -> Result<()
     requires { length nets.now ≡ length states.now }
     ensures { OnOk result (text.new ≡ text.old ++ route_counts nets.now states.now) }
 {
-    count_line(text, b"nets", nets.len() as u64)?;
+    count_line(text, b"nets", nets.len() as u128)?;
     joined_line(text, nets, states)?;
     stuck_line(text, nets, states)?;
     Ok(())
@@ -144,9 +144,9 @@ fn route_counts(text: &mut Text, nets: &[Net], states: &[NetState]) -> Result<()
 fn other_counts(text: &mut Text, nets: &[Net]) -> Result<(), Memory>
     ensures { OnOk result (text.new ≡ text.old ++ other_counts nets.now) }
 {
-    count_line(text, b"unguided", unguided_count(nets) as u64)?;
-    count_line(text, b"prewired", prewired_count(nets) as u64)?;
-    count_line(text, b"single", single_count(nets) as u64)?;
+    count_line(text, b"unguided", unguided_count(nets) as u128)?;
+    count_line(text, b"prewired", prewired_count(nets) as u128)?;
+    count_line(text, b"single", single_count(nets) as u128)?;
     Ok(())
 }
 

@@ -1,91 +1,8 @@
 // Reports of a chip with one wire, and of nets of each kind.
-ghost use Rattle.std.specs.Prelude.{◌≡◌, ◌<◌, ◌↔◌, IsTrue, IsSomeAnd, All, length};
-ghost use Rattle.track_graph.specs.Conditions.{IsBlockOf, IsNetOf, IsRipOf, IsWireOf};
-ghost use Rattle.track_graph.specs.Entries.{pin_of, pins_of};
-
 use super::*;
 use rt_base::{Edge, EdgeKind, Entry, EntryKind, Grid, Name, Point, Rect, Seq, Tech, Vertex, Walk};
 use std::test::Fail;
-use track_graph::{Block, Net, NetKind, Options, Pin, Tracks};
-
-/// How many pins a net has.
-fn pin_count(design: &Design, net: u32) -> usize
-    ensures { result ≡ length (pins_of design.now net) }
-{
-    match design.nets.as_slice().get(net as usize) {
-        Some(net) => net.pins.len(),
-        None => 0,
-    }
-}
-
-fn is_net(design: &Design, net: u32) -> bool
-    ensures { IsTrue result ↔ IsNetOf design.now net }
-{
-    (net as usize) < design.nets.len()
-}
-
-/// Whether an entry is of a pin that the net has.
-fn is_at_pin(design: &Design, net: u32, kind: EntryKind) -> bool
-    ensures { IsTrue result ↔ IsSomeAnd (pin_of kind) (λ pin. pin < length (pins_of design.now net)) }
-{
-    match kind {
-        EntryKind::Pin { pin } => (pin as usize) < pin_count(design, net),
-        EntryKind::Stub { pin, .. } => (pin as usize) < pin_count(design, net),
-        EntryKind::Wire => false,
-    }
-}
-
-fn is_wire(design: &Design, net: u32, walk: &Walk) -> bool
-    ensures { IsTrue result ↔ IsWireOf design.now net walk.now }
-{
-    if !is_net(design, net) {
-        return false;
-    }
-    if !is_at_pin(design, net, walk.finish.kind) {
-        return false;
-    }
-    true
-}
-
-fn are_nets(design: &Design, nets: &[u32]) -> bool
-    ensures { IsTrue result ↔ All (IsNetOf design.now) nets.now }
-{
-    nets.iter().all(|net| is_net(design, *net))
-}
-
-fn is_rip(design: &Design, net: u32, ripped: &[u32], walk: &Walk) -> bool
-    ensures { IsTrue result ↔ IsRipOf design.now net ripped.now walk.now }
-{
-    if !are_nets(design, ripped) {
-        return false;
-    }
-    if !is_wire(design, net, walk) {
-        return false;
-    }
-    true
-}
-
-fn is_block(design: &Design, block: &Block) -> bool
-    ensures { IsTrue result ↔ IsBlockOf design.now block.now }
-{
-    match block {
-        Block::Wire { net, walk } => is_wire(design, *net, walk),
-        Block::Stuck { net } => is_net(design, *net),
-        Block::RipFor {
-            net,
-            ripped,
-            walk,
-            ..
-        } => is_rip(design, *net, ripped.as_slice(), walk),
-    }
-}
-
-/// Whether the blocks name nets and pins of the design.
-fn are_blocks(design: &Design, blocks: &[Block]) -> bool
-    ensures { IsTrue result ↔ All (IsBlockOf design.now) blocks.now }
-{
-    blocks.iter().all(|block| is_block(design, block))
-}
+use track_graph::{Net, NetKind, NetState, Options, Pin, Tracks};
 
 fn pin(alloc: Global) -> Result<Pin, Memory> {
     Ok(Pin {
@@ -187,6 +104,16 @@ fn corner(alloc: Global) -> Result<Walk, Memory> {
     })
 }
 
+/// What stands of a net with this wire between its two pins.
+fn joined(alloc: Global, walk: Walk) -> Result<NetState, Memory> {
+    Ok(NetState {
+        walks: Seq::from_vec(vec![in alloc; walk]?),
+        joined: Seq::from_vec(vec![in alloc; true, true]?),
+        rips: 0,
+        stuck: false,
+    })
+}
+
 #[test]
 fn one_wire(rt: HostRuntime) -> Result<(), Fail> {
     let alloc = rt.alloc();
@@ -196,11 +123,11 @@ fn one_wire(rt: HostRuntime) -> Result<(), Fail> {
         Seq::new(alloc),
     );
     let walk = corner(alloc)?;
-    let mut journal = Journal::new(alloc);
-    journal.reserve()?;
-    journal.add(Block::Wire { net: 0, walk });
-    assert!(rt; are_blocks(&chip, journal.blocks()));
-    let text = report(alloc, &chip, &journal)?;
+    let state = State {
+        nets: Seq::from_vec(vec![in alloc; joined(alloc, walk)?]?),
+    };
+    assert_eq!(rt; chip.nets.len(), state.nets.len());
+    let text = report_of_state(alloc, &chip, &state, &[])?;
     let wanted =
         b"nets 1\njoined 1\nstuck 0\nunguided 0\nprewired 0\nsingle 0\nrips 0\nwire 1200\nvias 1\nskipped 0\n";
     assert_eq!(rt; text.as_slice(), wanted.as_slice());
@@ -236,7 +163,7 @@ fn kinds(rt: HostRuntime) -> Result<(), Fail> {
     let journal = Journal::new(alloc);
     for (kinds, wanted) in rows {
         let chip = design(alloc, nets_of(alloc, kinds)?, skipped_counts(alloc)?);
-        assert!(rt; are_blocks(&chip, journal.blocks()));
+        assert!(rt; journal.blocks().is_empty());
         let text = report(alloc, &chip, &journal)?;
         assert_eq!(rt; text.as_slice(), wanted);
     }

@@ -1,18 +1,19 @@
 //! How long the standing wires are, and how many vias they have.
 ghost use Rattle.std.specs.Prelude.{◌≡◌, ◌+◌, IfOk, sum_by};
 ghost use Rattle.std.specs.List.{enumerate_from};
-ghost use Rattle.track_graph.specs.Entries.{nearest, nearest_point, rect_of};
-ghost use Rattle.track_graph.specs.Metal.{distance};
+ghost use Rattle.rt_base.specs.Geometry.{distance};
+ghost use Rattle.track_graph.specs.Entries.{rect_of};
 ghost use Rattle.report.specs.Lines.{kind_wire, edge_wire, path_wire, walk_wire, walk_vias, net_wire, net_vias, is_via};
 
 use crate::counts::sum;
 use rt_base::{Edge, EdgeKind, Entry, EntryKind, Memory, Point, Rect, Vertex, Walk};
 use track_graph::{Design, NetState};
 
-fn units_between(p: Point, q: Point) -> Result<u64, Memory>
-    ensures { IfOk result (λ n. n ≡ distance p q) }
+/// The distance in x plus the distance in y.
+fn units_between(p: Point, q: Point) -> u128
+    ensures { result ≡ distance p q }
 {
-    sum(p.x.abs_diff(q.x), p.y.abs_diff(q.y))
+    u128::from(p.x.abs_diff(q.x)) + u128::from(p.y.abs_diff(q.y))
 }
 
 /// A rectangle of a pin by its numbers; a point at (0, 0) where there is none.
@@ -37,68 +38,51 @@ fn pin_rect(design: &Design, net: usize, pin: u32, rect: u32) -> Rect
     }
 }
 
-/// The number of a range that is nearest to z.
-fn nearest(lo: i64, hi: i64, z: i64) -> i64
-    ensures { result ≡ nearest lo hi z }
-{
-    lo.max(hi.min(z))
-}
-
-/// The point of a rectangle that is nearest to p.
-fn nearest_point(rect: Rect, p: Point) -> Point
-    ensures { result ≡ nearest_point rect p }
-{
-    Point {
-        x: nearest(rect.xl, rect.xh, p.x),
-        y: nearest(rect.yl, rect.yh, p.y),
-    }
-}
-
 /// The length of an entry's stub.
-fn entry_wire(design: &Design, net: usize, entry: &Entry) -> Result<u64, Memory>
-    ensures { IfOk result (λ n. n ≡ kind_wire design.now net entry.now.kind entry.now.vertex) }
+fn entry_wire(design: &Design, net: usize, entry: &Entry) -> u128
+    ensures { result ≡ kind_wire design.now net entry.now.kind entry.now.vertex }
 {
     match entry.kind {
-        EntryKind::Pin { .. } => Ok(0),
+        EntryKind::Pin { .. } => 0,
         EntryKind::Stub { pin, rect } => {
             let to = entry.vertex.point;
-            units_between(nearest_point(pin_rect(design, net, pin, rect), to), to)
+            units_between(pin_rect(design, net, pin, rect).nearest(to), to)
         }
-        EntryKind::Wire => Ok(0),
+        EntryKind::Wire => 0,
     }
 }
 
-fn edge_wire(v: Vertex, e: &Edge) -> Result<u64, Memory>
-    ensures { IfOk result (λ n. n ≡ edge_wire e.now.kind v e.now.to) }
+fn edge_wire(v: Vertex, e: &Edge) -> u128
+    ensures { result ≡ edge_wire e.now.kind v e.now.to }
 {
     match e.kind {
         EdgeKind::Along => units_between(v.point, e.to.point),
-        EdgeKind::Via(_) => Ok(0),
+        EdgeKind::Via(_) => 0,
     }
 }
 
-fn path_wire(start: Vertex, edges: &[Edge]) -> Result<u64, Memory>
+fn path_wire(start: Vertex, edges: &[Edge]) -> Result<u128, Memory>
     ensures { IfOk result (λ n. n ≡ path_wire start edges.now) }
 {
     let mut total = 0;
     let mut at = start;
     for e in edges {
-        total = sum(total, edge_wire(at, e)?)?;
+        total = sum(total, edge_wire(at, e))?;
         at = e.to;
     }
     Ok(total)
 }
 
-fn walk_wire(design: &Design, net: usize, walk: &Walk) -> Result<u64, Memory>
+fn walk_wire(design: &Design, net: usize, walk: &Walk) -> Result<u128, Memory>
     ensures { IfOk result (λ n. n ≡ walk_wire design.now net walk.now) }
 {
-    let start = entry_wire(design, net, &walk.start)?;
+    let start = entry_wire(design, net, &walk.start);
     let path = path_wire(walk.start.vertex, walk.edges.as_slice())?;
-    let finish = entry_wire(design, net, &walk.finish)?;
+    let finish = entry_wire(design, net, &walk.finish);
     sum(sum(start, path)?, finish)
 }
 
-fn net_wire(design: &Design, net: usize, state: &NetState) -> Result<u64, Memory>
+fn net_wire(design: &Design, net: usize, state: &NetState) -> Result<u128, Memory>
     ensures { IfOk result (λ n. n ≡ net_wire design.now (net, state.now)) }
 {
     let mut total = 0;
@@ -123,18 +107,18 @@ fn walk_vias(walk: &Walk) -> usize
     walk.edges.as_slice().iter().filter(|e| is_via(e)).count()
 }
 
-fn net_vias(state: &NetState) -> Result<u64, Memory>
+fn net_vias(state: &NetState) -> Result<u128, Memory>
     ensures { IfOk result (λ n. n ≡ net_vias state.now) }
 {
     let mut total = 0;
     for walk in state.walks.as_slice() {
-        total = sum(total, walk_vias(walk) as u64)?;
+        total = sum(total, walk_vias(walk) as u128)?;
     }
     Ok(total)
 }
 
 /// The length of all standing walks along tracks and of their stubs.
-pub fn wire(design: &Design, states: &[NetState]) -> Result<u64, Memory>
+pub fn wire(design: &Design, states: &[NetState]) -> Result<u128, Memory>
     ensures { IfOk result (λ n. n ≡ sum_by (net_wire design.now) (enumerate_from 0 states.now)) }
 {
     let mut total = 0;
@@ -145,7 +129,7 @@ pub fn wire(design: &Design, states: &[NetState]) -> Result<u64, Memory>
 }
 
 /// The vias of all standing walks.
-pub fn vias(states: &[NetState]) -> Result<u64, Memory>
+pub fn vias(states: &[NetState]) -> Result<u128, Memory>
     ensures { IfOk result (λ n. n ≡ sum_by net_vias states.now) }
 {
     let mut total = 0;

@@ -12,9 +12,9 @@ use Rattle.track_graph.specs.declared.design.Design.{Design}
 use Rattle.track_graph.specs.declared.history.Block.{Block}
 use Rattle.track_graph.specs.declared.history.State.{State}
 use Rattle.track_graph.specs.Histories.{IsFinishedHistory, IsRight, IsHistory}
-use Rattle.track_graph.specs.Rules.{standing, BreaksNoRule}
-use Rattle.track_graph.specs.States.{first_state, state_of}
-use Rattle.track_graph.proofs.Rules.{IsHistory-breaks_no_rule}
+use Rattle.track_graph.specs.Rules.{BreaksNoRule}
+use Rattle.track_graph.specs.States.{first_state, state_of, standing}
+use Rattle.track_graph.proofs.Rules.{IsHistory-breaks_no_rule, conflict_flip}
 use Rattle.ripup.specs.Headline.{BeginsWith, StandsBehind, NoneConflict, IsClearAtAnyTime, IsLeastAtItsPlace, IsStuckForWant, IsHeadline}
 use Rattle.ripup.proofs.HistoryLemmas.{history-parts}
 use Rattle.ripup.proofs.MarkLemmas.{IsFinishedHistory-marked}
@@ -26,39 +26,6 @@ IsHistory-begin d blocks before h (rest, e) = (history-parts d (first_state d) b
 -- each block of a history is right in the state of those before it
 IsHistory-right : (d : Design) (blocks before : List Block) (b : Block) → IsHistory d blocks → StandsBehind blocks before b → IsRight d (state_of d before) b
 IsHistory-right d blocks before b h (rest, e) = (history-parts d (first_state d) before (b ∷ rest) (subst (IsHistory d) e h)).1.0
-
--- which of two shapes comes first makes no difference
-eq_flip : (m n : ℕ) → (m == n) ≡ (n == m)
-eq_flip m n = grind (arith, nat_tests)
-
-owner_flip : (o p : Owner) → same_owner o p ≡ same_owner p o
-owner_flip (OfNet m) (OfNet n) = eq_flip m n
-owner_flip (OfNet m) Nobody = refl
-owner_flip Nobody (OfNet n) = refl
-owner_flip Nobody Nobody = refl
-
-max_flip : (m n : ℕ) → max m n ≡ max n m
-max_flip m n = omega arith
-
-same_from_test : (m n : ℕ) → (m == n) ≡ true → m ≡ n
-same_from_test m n h = grind (arith, nat_tests)
-
-and_same : (p q n m : Bool) → (p ≡ true → n ≡ m) → (p && q && n) ≡ (p && q && m)
-and_same true q n m h = ap (λ (z : Bool). q && z) (h refl)
-and_same false q n m h = refl
-
-conflict_flip : (tech : Tech) (a b : Shape) → conflict_of tech a b ≡ conflict_of tech b a
-conflict_flip tech a b =
-    let gx : gap_x a.rect b.rect ≡ gap_x b.rect a.rect = max_flip _ _ in
-    let gy : gap_y a.rect b.rect ≡ gap_y b.rect a.rect = max_flip _ _ in
-    let l : (a.layer.0 == b.layer.0) ≡ (b.layer.0 == a.layer.0) = eq_flip _ _ in
-    let o : same_owner a.owner b.owner ≡ same_owner b.owner a.owner = owner_flip a.owner b.owner in
-    and_same (a.layer.0 == b.layer.0) (not (same_owner a.owner b.owner)) _ (is_near_of (gap_x b.rect a.rect) (gap_y b.rect a.rect) (spacing_of tech b.layer))
-    (λ h. let e : a.layer.0 ≡ b.layer.0 = same_from_test a.layer.0 b.layer.0 h in
-    let s : spacing_of tech a.layer ≡ spacing_of tech b.layer = ap (λ (k : ℕ). spacing_of tech (record { 0 = k })) e in
-    rw (gx, gy, s) refl)
-    ∙ ap (λ (z : Bool). z && not (same_owner a.owner b.owner) && is_near_of (gap_x b.rect a.rect) (gap_y b.rect a.rect) (spacing_of tech b.layer)) l
-    ∙ ap (λ (z : Bool). (b.layer.0 == a.layer.0) && not z && is_near_of (gap_x b.rect a.rect) (gap_y b.rect a.rect) (spacing_of tech b.layer)) o
 
 -- where no two fixed shapes conflict and no wire does, no two shapes do
 none_conflict : (d : Design) (s : State) → NoneConflict d.tech d.fixed → BreaksNoRule d s → NoneConflict d.tech (d.fixed ++ standing d s)

@@ -1,33 +1,12 @@
--- Histories: they go on with a right block, their blocks are the design's, and the state after one is routed.
+-- Histories: they come in parts, and go on with a right block.
 use Rattle.std.proofs.Common.{◌≡◌, List, [], ◌∷◌, ◌++◌, fold, All}
 use Rattle.std.proofs.lemmas.List.Elements.{All-nil, All-cons}
 use Rattle.std.proofs.lemmas.List.Sums.{fold-append}
 use Rattle.track_graph.specs.declared.design.Design.{Design}
 use Rattle.track_graph.specs.declared.history.Block.{Block}
 use Rattle.track_graph.specs.declared.history.State.{State}
-use Rattle.track_graph.specs.Conditions.{IsBlockOf}
-use Rattle.track_graph.specs.Designs.{IsDesign}
 use Rattle.track_graph.specs.Histories.{IsRight, IsHistory, IsHistoryFrom}
-use Rattle.track_graph.specs.NetWalks.{IsRouted}
 use Rattle.track_graph.specs.States.{after, first_state, state_of}
-use Rattle.ripup.proofs.BlockLemmas.{right-block_of}
-use Rattle.ripup.proofs.RoutedLemmas.{after-routed, first-routed}
-
-history-routed : (d : Design) (s : State) (bs : List Block) → IsDesign d → IsRouted d s → IsHistoryFrom d s bs → IsRouted d (fold after s bs)
-history-routed d s [] ok h right = h
-history-routed d s (b ∷ bs) ok h right = history-routed d (after s b) bs ok (after-routed d s b ok h right.0) right.1
-
-history-blocks_of : (d : Design) (s : State) (bs : List Block) → IsDesign d → IsRouted d s → IsHistoryFrom d s bs → All (IsBlockOf d) bs
-history-blocks_of d s [] ok h right = All-nil (IsBlockOf d)
-history-blocks_of d s (b ∷ bs) ok h right = All-cons (IsBlockOf d) b bs (right-block_of d s b ok h.state right.0) (history-blocks_of d (after s b) bs ok (after-routed d s b ok h right.0) right.1)
-
--- the state after a history is routed
-pub IsHistory-routed : (d : Design) (blocks : List Block) → IsDesign d → IsHistory d blocks → IsRouted d (state_of d blocks)
-IsHistory-routed d blocks ok h = history-routed d (first_state d) blocks ok (first-routed d) h
-
--- each block of a history is one of the design
-pub IsHistory-blocks_of : (d : Design) (blocks : List Block) → IsDesign d → IsHistory d blocks → All (IsBlockOf d) blocks
-IsHistory-blocks_of d blocks ok h = history-blocks_of d (first_state d) blocks ok (first-routed d) h
 
 -- a history from a state on comes in two parts
 pub history-parts : (d : Design) (s : State) (before rest : List Block) → IsHistoryFrom d s (before ++ rest) → IsHistoryFrom d s before × IsHistoryFrom d (fold after s before) rest

@@ -2,9 +2,10 @@
 use Rattle.std.proofs.Common.{◌≡◌, ◌∙◌, ℕ, List, [], ◌∷◌, Option, Some, None, ap, refl, sym, fold, flat_map}
 use Rattle.std.proofs.lemmas.List.Sums.{fold-append}
 use Rattle.rt_base.specs.Sides.{Sides}
+use Rattle.rt_base.specs.Geometry.{hull_of_sides}
 use Rattle.track_graph.specs.declared.design.Pin.{Pin}
 use Rattle.track_graph.specs.Metal.{Metal}
-use Rattle.track_graph.specs.Orders.{hull_of_sides, half_perimeter, hull_extent}
+use Rattle.track_graph.specs.Orders.{half_perimeter, hull_extent}
 use Rattle.ripup.specs.Hulls.{with_rect, with_pin}
 
 abbrev pub rects_of_pins : List Pin → List Metal

@@ -1,9 +1,8 @@
 pub mod HullLemmas
 pub mod RankLemmas
-pub mod BlockLemmas
-pub mod RoutedLemmas
 pub mod HistoryLemmas
 pub mod HeadlineLemmas
 pub mod MarkLemmas
 pub mod SearchLemmas
 pub mod ProgressLemmas
+pub mod OrderLemmas

@@ -11,23 +11,22 @@ use Rattle.track_graph.specs.declared.history.NetState.{NetState}
 use Rattle.track_graph.specs.declared.history.State.{State}
 use Rattle.track_graph.specs.Designs.{IsDesign}
 use Rattle.track_graph.specs.Histories.{all_joined, IsFinished, IsRight, IsRoutable}
-use Rattle.track_graph.specs.NetWalks.{IsRouted}
+use Rattle.track_graph.specs.Conditions.{IsStateOf}
 use Rattle.track_graph.specs.Orders.{IsOrder}
 use Rattle.track_graph.specs.States.{after, join_pin, net_state, set_at}
 use Rattle.track_graph.proofs.StateLemmas.{net_state-same, net_state-other}
 use Rattle.ripup.specs.declared.progress.Progress.{Progress}
 use Rattle.ripup.specs.Progress.{missing, work_left, IsBlockFor, IsDone, IsUnderWay}
-use Rattle.ripup.proofs.BlockLemmas.{pin_of-entry}
-use Rattle.ripup.proofs.HistoryLemmas.{IsHistory-routed}
-use Rattle.ripup.proofs.RankLemmas.{within_nets}
+use Rattle.track_graph.proofs.BlockLemmas.{history-kept}
+use Rattle.track_graph.proofs.WalkLemmas.{entry-named, routable_within}
 
--- the state of a run is routed
-pub under_way-routed : (d : Design) (run : Progress) → IsDesign d → IsUnderWay d run → IsRouted d run.state
-under_way-routed d run ok h = subst (IsRouted d) (sym h.state) (IsHistory-routed d run.journal.blocks ok h.history)
+-- the state of a run is one of the design
+pub under_way-kept : (d : Design) (run : Progress) → IsDesign d → IsUnderWay d run → IsStateOf d run.state
+under_way-kept d run ok h = subst (IsStateOf d) (sym h.state) (history-kept d run.journal.blocks ok h.history)
 
 -- it has each routable net
 pub under_way-within : (d : Design) (run : Progress) (n : ℕ) → IsDesign d → IsUnderWay d run → IsRoutable d n → n < length run.state.nets
-under_way-within d run n ok h routable = subst (λ (k : ℕ). n < k) (sym (under_way-routed d run ok h).state.nets) (within_nets d n routable)
+under_way-within d run n ok h routable = subst (λ (k : ℕ). n < k) (sym (under_way-kept d run ok h).nets) (routable_within d n routable)
 
 -- one pin more is joined
 missing-joined : (bs : List Bool) (k : ℕ) → slice_get bs k ≡ Some false → sum_by missing bs ≡ 1 + sum_by missing (slice_set bs k true)
@@ -62,7 +61,7 @@ after-work_left d s n (Wire m w) ok within right same =
     let unmarked : old.stuck ≡ false = subst (λ (k : ℕ). (net_state s k).stuck ≡ false) same right.waiting.not_stuck in
     let finish = right.walk.legal.walk.finish in
     let unjoined : slice_get old.joined finish.0 ≡ Some false = subst (λ (k : ℕ). slice_get (net_state s k).joined finish.0 ≡ Some false) same finish.1 in
-    let joined : new.joined ≡ slice_set old.joined finish.0 true = ap (λ (o : Option ℕ). set_at o old.joined) (pin_of-entry d m finish.0 w.finish ok finish.2) in
+    let joined : new.joined ≡ slice_set old.joined finish.0 true = ap (λ (o : Option ℕ). set_at o old.joined) (entry-named d m finish.0 w.finish ok finish.2) in
     let fewer : sum_by missing old.joined ≡ 1 + sum_by missing new.joined = missing-joined old.joined finish.0 unjoined ∙ ap (λ (bs : List Bool). 1 + sum_by missing bs) (sym joined) in
     let left : work_left new < work_left old = omega (arith, work_left-open new unmarked, work_left-open old unmarked) in
     subst P (sym same) (subst (λ (x : NetState). work_left x < work_left old) (sym (net_state-same s n new within)) left)

@@ -21,6 +21,7 @@ use Rattle.track_graph.specs.declared.design.NetKind.{NetKind}
 use Rattle.track_graph.specs.declared.design.NetKind.TheVariants.{Routable}
 use Rattle.track_graph.specs.Histories.{IsRoutable}
 use Rattle.track_graph.specs.Orders.{hull_extent, net_extent, IsBefore, IsOrder}
+use Rattle.track_graph.proofs.WalkLemmas.{routable_within}
 use Rattle.ripup.specs.Hulls.{IsRank, AreRanked}
 
 pub AreRanked-none : (d : Design) → AreRanked d 0 []
@@ -149,15 +150,6 @@ Contains-from_numbers ranks n (k, l, e) =
     (get_or ranks k (0, 0), Contains-get_or ranks k (0, 0) within, sym (get_or-map number_of ranks k (0, 0) n within) ∙ e)
 
 -- a routable net is one of the design's
-pub within_nets : (d : Design) (n : ℕ) → IsRoutable d n → n < length d.nets
-within_nets d n h = ⊎_elim
-    (λ (l : n < length d.nets). l)
-    (λ (past : length d.nets ≤ n). absurd (none_some (ap (λ (o : Option Net). option_map (λ (net : Net). net.kind) o) (sym (slice_get_past d.nets n past)) ∙ h)))
-    (cases_lt n (length d.nets))
-  where
-    none_some : (let o : Option NetKind = None in o ≡ Some Routable) → ⊥
-    none_some h = cc
-
 below_other : (m n : ℕ) → (m ≡ n → ⊥) → m ≤ n → m < n
 below_other m n other le = omega arith
 
@@ -171,7 +163,7 @@ IsOrder-sorted d ranks sorted h moved up =
             let (r, at, e) = Contains-from_numbers sorted n c in
             subst (IsRoutable d) e (All-contains (IsRank d (length d.nets)) sorted r only at).routable),
         (λ (routable : IsRoutable d n).
-            Contains-numbers sorted (net_extent d n, n) (Contains-permutation ranks sorted _ moved (h.has n (within_nets d n routable) routable))),
+            Contains-numbers sorted (net_extent d n, n) (Contains-permutation ranks sorted _ moved (h.has n (routable_within d n routable) routable))),
       );
       ordered = λ i j x lt l.
           let past : j < length sorted = subst (λ (m : ℕ). j < m) (length-map sorted number_of) l in

@@ -2,11 +2,12 @@
 use Rattle.std.proofs.Common.{◌≡◌, ◌∙◌, ℕ, ◌+◌, List, [], ◌∷◌, ◌++◌, Bool, true, false, cond, ◌&&◌, ◌==◌, not, refl, ap, subst, arith, nat_lt}
 use Rattle.std.proofs.lemmas.Bool.Decides.{nat_tests}
 use Rattle.rt_base.specs.declared.tech.Shape.{Shape}
+use Rattle.track_graph.specs.Readings.{hard_reading, may_rip, soft_reading}
 use Rattle.track_graph.specs.declared.design.Design.{Design}
 use Rattle.track_graph.specs.declared.history.NetState.{NetState}
 use Rattle.track_graph.specs.declared.history.State.{State}
-use Rattle.track_graph.specs.Searches.{may_rip, hard_reading, soft_reading, some_conflict, NoneLegal}
-use Rattle.track_graph.specs.States.{net_shapes, standing_from}
+use Rattle.track_graph.specs.Searches.{some_conflict, NoneLegal}
+use Rattle.track_graph.specs.States.{every_net, net_shapes, net_state, standing_from}
 use Rattle.track_graph.specs.Walks.{walk_shapes_of}
 
 none_below : (n : ℕ) → nat_lt n 0 ≡ false
@@ -23,18 +24,16 @@ none_soft d n m net no_rips =
     ∙ not_and_false (not (m == n))
 
 -- the shapes that forbid in the soft reading are all
-standing-forbids : (d : Design) (n m : ℕ) (nets : List NetState) → d.options.rips ≡ 0 → standing_from d (λ k net. not (may_rip d n k net)) m nets ≡ standing_from d (λ k net. true) m nets
+standing-forbids : (d : Design) (n m : ℕ) (nets : List NetState) → d.options.rips ≡ 0 → standing_from d (λ k net. not (may_rip d n k net)) m nets ≡ standing_from d every_net m nets
 standing-forbids d n m [] no_rips = refl
 standing-forbids d n m (net ∷ nets) no_rips =
     ap (λ (b : Bool). cond b (net_shapes d m net) [] ++ standing_from d (λ k net. not (may_rip d n k net)) (m + 1) nets) (none_soft d n m net no_rips)
     ∙ ap (λ (ss : List Shape). net_shapes d m net ++ ss) (standing-forbids d n (m + 1) nets no_rips)
 
 -- where no net may be ripped a net without a legal walk has no soft one
-pub NoneLegal-soft : (d : Design) (s : State) (n : ℕ) → d.options.rips ≡ 0 → NoneLegal d s (hard_reading d s) n → NoneLegal d s (soft_reading d s n) n
+pub NoneLegal-soft : (d : Design) (s : State) (n : ℕ) → d.options.rips ≡ 0 → NoneLegal d n (net_state s n) (hard_reading d s) → NoneLegal d n (net_state s n) (soft_reading d s n)
 NoneLegal-soft d s n no_rips none v legal = none v (record {
   walk = legal.walk;
-  start_in = legal.start_in;
-  finish_in = legal.finish_in;
-  path_in = legal.path_in;
+  inside = legal.inside;
   clear = subst (λ (ss : List Shape). some_conflict d.tech (walk_shapes_of d n v) (d.fixed ++ ss) ≡ false) (standing-forbids d n 0 s.nets no_rips) legal.clear;
 })

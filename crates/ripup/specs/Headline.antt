@@ -4,18 +4,26 @@ use Rattle.rt_base.specs.declared.tech.Shape.{Shape}
 use Rattle.rt_base.specs.declared.tech.Tech.{Tech}
 use Rattle.rt_base.specs.declared.walk.Walk.{Walk}
 use Rattle.rt_base.specs.Conflict.{conflict_of}
+use Rattle.track_graph.specs.Readings.{hard_reading, soft_reading, reading_without}
 use Rattle.track_graph.specs.declared.design.Design.{Design}
 use Rattle.track_graph.specs.declared.history.Block.{Block}
 use Rattle.track_graph.specs.declared.history.Block.TheVariants.{Wire, Stuck, RipFor}
 use Rattle.track_graph.specs.declared.history.State.{State}
 use Rattle.track_graph.specs.Histories.{all_joined, IsRoutable}
-use Rattle.track_graph.specs.Rules.{standing, BreaksNoRule}
-use Rattle.track_graph.specs.Searches.{hard_reading, soft_reading, IsLeast, NoneLegal}
-use Rattle.track_graph.specs.States.{emptied, net_state, state_of}
+use Rattle.track_graph.specs.Orders.{AreTakenInOrder}
+use Rattle.track_graph.specs.Rules.{BreaksNoRule}
+use Rattle.track_graph.specs.Searches.{IsLeast, NoneLegal}
+use Rattle.track_graph.specs.States.{net_state, state_of, standing}
 
 -- the blocks begin with these
 abbrev pub BeginsWith : List Block → List Block → Type 0
 BeginsWith blocks before = (rest : List Block) × (blocks ≡ before ++ rest)
+
+-- they begin with these, and in those added the nets are first taken in their order
+pub record GoesOnInOrder (d : Design) (blocks before : List Block) : Type 0 where
+  pub added : List Block
+  pub whole : blocks ≡ before ++ added
+  pub order : AreTakenInOrder d added
 
 -- among the blocks this one stands, and these are all those before it
 abbrev pub StandsBehind : List Block → List Block → Block → Type 0
@@ -32,17 +40,21 @@ pub record IsClearAtAnyTime (d : Design) (blocks : List Block) : Type 0 where
 
 -- the walk is legal, and no legal walk of the net costs less
 abbrev pub IsLeastIn : Design → State → ℕ → Walk → Type 0
-IsLeastIn d s n w = IsLeast d s (hard_reading d s) n w
+IsLeastIn d s n w = IsLeast d n (net_state s n) (hard_reading d s) w
 
 -- the net has no legal walk, nor one where the wires of nets that may be ripped don't forbid
 pub record HasNoWalk (d : Design) (s : State) (n : ℕ) : Type 0 where
-  pub hard : NoneLegal d s (hard_reading d s) n
-  pub soft : NoneLegal d s (soft_reading d s n) n
+  pub hard : NoneLegal d n (net_state s n) (hard_reading d s)
+  pub soft : NoneLegal d n (net_state s n) (soft_reading d s n)
 
--- each wire is least in the state of the blocks before it, and one for which nets are ripped in that state without their wires
+-- the walk is least with these nets emptied
+abbrev pub IsLeastWithout : Design → State → List ℕ → ℕ → Walk → Type 0
+IsLeastWithout d s absent n w = IsLeast d n (net_state s n) (reading_without d s absent) w
+
+-- each wire is least in the state of the blocks before it, and one for which nets are ripped with them emptied
 pub record IsLeastAtItsPlace (d : Design) (blocks : List Block) : Type 0 where
   pub wire : (before : List Block) (n : ℕ) (w : Walk) → StandsBehind blocks before (Wire n w) → IsLeastIn d (state_of d before) n w
-  pub rip_for : (before : List Block) (n : ℕ) (soft : Walk) (ripped : List ℕ) (w : Walk) → StandsBehind blocks before (RipFor n soft ripped w) → IsLeastIn d (emptied (state_of d before) ripped) n w
+  pub rip_for : (before : List Block) (n : ℕ) (soft : Walk) (ripped : List ℕ) (w : Walk) → StandsBehind blocks before (RipFor n soft ripped w) → IsLeastWithout d (state_of d before) ripped n w
 
 -- a mark stands only where the net has no walk
 abbrev pub IsStuckForWant : Design → List Block → Type 0

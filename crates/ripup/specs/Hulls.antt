@@ -1,11 +1,12 @@
 -- Hulls that grow by a rectangle at a time, and the routable nets with their extents.
 use Rattle.std.specs.Prelude.{◌≡◌, ℕ, ◌<◌, List, fold, Option, Some, None, All, AllPairs, Contains}
 use Rattle.rt_base.specs.Sides.{Sides}
+use Rattle.rt_base.specs.Geometry.{hull_of_sides}
 use Rattle.track_graph.specs.declared.design.Design.{Design}
 use Rattle.track_graph.specs.declared.design.Pin.{Pin}
 use Rattle.track_graph.specs.Histories.{IsRoutable}
 use Rattle.track_graph.specs.Metal.{Metal}
-use Rattle.track_graph.specs.Orders.{hull_of_sides, net_extent}
+use Rattle.track_graph.specs.Orders.{net_extent}
 
 -- the hull of a rectangle and of what there is already
 abbrev pub with_sides : Option Sides → Sides → Sides

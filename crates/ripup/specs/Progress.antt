@@ -1,5 +1,5 @@
 -- A run under way: a history, the state after it, and what is left to do for a net.
-use Rattle.std.specs.Prelude.{◌≡◌, ℕ, Bool, ◌&&◌, ◌||◌, not, IsTrue, if◌then◌else◌, sum_by}
+use Rattle.std.specs.Prelude.{◌≡◌, ℕ, Bool, ◌&&◌, ◌||◌, not, IsTrue, if◌then◌else◌, sum_by, List, ◌++◌, All}
 use Rattle.ripup.specs.declared.progress.Progress.{Progress}
 use Rattle.track_graph.specs.declared.design.Design.{Design}
 use Rattle.track_graph.specs.declared.history.Block.{Block}
@@ -7,6 +7,7 @@ use Rattle.track_graph.specs.declared.history.Block.TheVariants.{Wire, Stuck, Ri
 use Rattle.track_graph.specs.declared.history.NetState.{NetState}
 use Rattle.track_graph.specs.declared.history.State.{State}
 use Rattle.track_graph.specs.Histories.{all_joined, IsHistory}
+use Rattle.track_graph.specs.Orders.{net_of}
 use Rattle.track_graph.specs.States.{net_state, state_of}
 
 -- the journal is a history, and the state is the one after it
@@ -34,3 +35,9 @@ abbrev pub IsBlockFor : ℕ → Block → Type 0
 IsBlockFor net (Wire n w) = n ≡ net
 IsBlockFor net (Stuck n) = n ≡ net
 IsBlockFor net (RipFor n soft ripped w) = ⊥
+
+-- the blocks go on from these with blocks of one net alone
+pub record AddsOf (net : ℕ) (blocks before : List Block) : Type 0 where
+  pub added : List Block
+  pub whole : blocks ≡ before ++ added
+  pub of_net : All (λ b. net_of b ≡ net) added

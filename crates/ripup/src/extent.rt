@@ -12,12 +12,7 @@ fn joined(hull: Option<Rect>, rect: Rect) -> Rect
 {
     match hull {
         None => rect,
-        Some(hull) => Rect {
-            xl: hull.xl.min(rect.xl),
-            yl: hull.yl.min(rect.yl),
-            xh: hull.xh.max(rect.xh),
-            yh: hull.yh.max(rect.yh),
-        },
+        Some(hull) => hull.join(rect),
     }
 }
 

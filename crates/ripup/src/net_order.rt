@@ -39,6 +39,3 @@ pub fn order(alloc: Global, design: &Design) -> Result<Vec<u32>, Memory>
     ranks.sort_unstable();
     numbers(alloc, &ranks)
 }
-
-#[cfg(test)]
-mod tests;

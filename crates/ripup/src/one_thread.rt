@@ -1,10 +1,9 @@
 //! Routing on one thread.
-ghost use Rattle.std.specs.Prelude.{◌≡◌, All, IfOk};
-ghost use Rattle.ripup.specs.Headline.{BeginsWith, IsHeadline};
-ghost use Rattle.track_graph.specs.Conditions.{IsBlockOf};
+ghost use Rattle.std.specs.Prelude.{◌≡◌, IfOk};
+ghost use Rattle.ripup.specs.Headline.{BeginsWith, GoesOnInOrder, IsHeadline};
+ghost use Rattle.track_graph.specs.Conditions.{IsJournalOf, IsStateOf};
 ghost use Rattle.track_graph.specs.Designs.{IsDesign};
 ghost use Rattle.track_graph.specs.Histories.{IsFinishedHistory, IsHistory};
-ghost use Rattle.track_graph.specs.NetWalks.{IsRouted};
 ghost use Rattle.track_graph.specs.States.{state_of};
 
 use crate::net_order::order;
@@ -25,8 +24,9 @@ pub fn finish(alloc: Global, design: &Design, journal: Journal) -> Result<Journa
     ensures finished { IfOk result (λ j. IsFinishedHistory design.now j.blocks) }
     ensures begins { IfOk result (λ j. BeginsWith j.blocks journal.blocks) }
     ensures headline { IfOk result (λ j. IsHeadline design.now j.blocks) }
-    ensures blocks { IfOk result (λ j. All (IsBlockOf design.now) j.blocks) }
-    ensures routed { IfOk result (λ j. IsRouted design.now (state_of design.now j.blocks)) }
+    ensures order { IfOk result (λ j. GoesOnInOrder design.now j.blocks journal.blocks) }
+    ensures blocks { IfOk result (λ j. IsJournalOf design.now j.blocks) }
+    ensures state { IfOk result (λ j. IsStateOf design.now (state_of design.now j.blocks)) }
 {
     let state = fold(alloc, design, journal.blocks())?;
     let mut run = Progress { journal, state };
@@ -36,6 +36,3 @@ pub fn finish(alloc: Global, design: &Design, journal: Journal) -> Result<Journa
     let Progress { journal, state: _ } = run;
     Ok(journal)
 }
-
-#[cfg(test)]
-mod tests;

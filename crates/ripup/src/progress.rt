@@ -1,10 +1,9 @@
 //! A run under way.
 ghost use Rattle.std.specs.Prelude.{◌≡◌, ◌≢◌, ℕ, ◌<◌, ◌++◌, ◌∷◌, [], length, IfOk, OnOk};
-ghost use Rattle.ripup.specs.Headline.{BeginsWith};
-ghost use Rattle.ripup.specs.Progress.{is_waiting, IsBlockFor, IsDone, IsUnderWay};
+ghost use Rattle.ripup.specs.Progress.{is_waiting, AddsOf, IsBlockFor, IsDone, IsUnderWay};
 ghost use Rattle.track_graph.specs.Designs.{IsDesign};
 ghost use Rattle.track_graph.specs.Histories.{IsRight, IsRoutable, IsWaiting};
-ghost use Rattle.track_graph.specs.NetWalks.{IsRouted};
+ghost use Rattle.track_graph.specs.Conditions.{IsStateOf};
 ghost use Rattle.track_graph.specs.States.{after, net_state};
 
 use plain_route::plain_search;
@@ -32,7 +31,7 @@ fn is_waiting(state: &State, net: u32) -> bool
 fn next_block(alloc: Global, design: &Design, state: &State, net: u32) -> Result<Block, Memory>
     requires design { IsDesign design.now }
     requires rips { design.now.options.rips ≡ 0 }
-    requires routed { IsRouted design.now state.now }
+    requires state { IsStateOf design.now state.now }
     requires waiting { IsWaiting design.now state.now net }
     ensures right { IfOk result (λ b. IsRight design.now state.now b) }
     ensures net { IfOk result (λ b. IsBlockFor net b) }
@@ -66,7 +65,7 @@ impl Progress {
         requires under_way { IsUnderWay design.now self.old }
         requires routable { IsRoutable design.now net }
         ensures under_way { OnOk result (IsUnderWay design.now self.new) }
-        ensures begins { OnOk result (BeginsWith self.new.journal.blocks self.old.journal.blocks) }
+        ensures adds { OnOk result (AddsOf net self.new.journal.blocks self.old.journal.blocks) }
         ensures done { OnOk result (IsDone self.new.state net) }
         ensures others { OnOk result ((m : ℕ) → m ≢ net → net_state self.new.state m ≡ net_state self.old.state m) }
     {

@@ -44,7 +44,7 @@ use Rattle.router.specs.Made.{IsRead, IsReady}
 use Rattle.rt_base.specs.declared.tech.Via.{Via}
 use Rattle.track_graph.specs.Metal.{Metal}
 use Rattle.wire_cover.specs.GoodStrokes.{IsOrdered}
-use Rattle.read_back.proofs.Lists.{all_at}
+use Rattle.rt_base.proofs.Lists.{All-at}
 use Rattle.router.specs.Sources.{AreReadable, of_take, of_scan, IsSourceFault, SaysNoGuides, IsLefFileCause, IsDefFileCause, IsGuideFileCause, IsGuideCause}
 use Rattle.router.proofs.RunLemmas.{risen_from, risen_to}
 use Rattle.rt_base.specs.declared.scan.ScanError.{ScanError}
@@ -196,7 +196,7 @@ read_of told asked lef def said guides d cut say are gives readable ordered = re
     text_is = refl;
   };
   readable = readable;
-  ordered = λ k v is usable. all_at (λ (x : Via). All (λ (m : Metal). IsOrdered m.1) x.rects) d.tech.vias ordered k v is;
+  ordered = λ k v is usable. All-at (λ (x : Via). All (λ (m : Metal). IsOrdered m.1) x.rects) d.tech.vias k v ordered is;
 }
 
 -- the design decides

@@ -616,3 +616,26 @@ fn limits_of_lef(rt: HostRuntime) -> Result<(), Fail> {
     assert!(rt; ran.out.text() == b"error 7 limit usable-vias 65 64\n".as_slice());
     Ok(())
 }
+
+/// A pin over a die with 32,768 lines of tracks in either direction: a list of its entries would take
+/// more than 32 GB. They are counted before they are listed.
+const MANY_ENTRIES: &[u8] = b"\
+UNITS DISTANCE MICRONS 1000 ;
+DIEAREA ( 0 0 ) ( 65535 65535 ) ;
+TRACKS X 0 DO 32768 STEP 2 ;
+TRACKS Y 0 DO 32768 STEP 2 ;
+PINS 1 ;
+- p + LAYER M1 ( 0 0 ) ( 65535 65535 ) + PLACED ( 0 0 ) N ;
+END PINS
+NETS 1 ;
+- a ( PIN p ) ;
+END NETS
+END DESIGN
+";
+
+#[test]
+fn limit_of_entries(rt: HostRuntime) -> Result<(), Fail> {
+    let ran = route(rt.alloc(), LEF, MANY_ENTRIES)?;
+    assert!(rt; ran.out.text() == b"error 7 limit entries 1073741824 16777216\n".as_slice());
+    Ok(())
+}

@@ -15,7 +15,7 @@ use rt_words::NumberFault;
 use std::alloc::Global;
 
 /// A kind and a number.
-fn with_number(text: &mut Text, kind: &[u8], number: u64) -> Result<(), Memory>
+fn with_number(text: &mut Text, kind: &[u8], number: u128) -> Result<(), Memory>
     ensures { OnOk result (text.new ≡ text.old ++ with_number kind.now number) }
 {
     text.bytes(kind)?;
@@ -36,7 +36,7 @@ fn with_name(text: &mut Text, kind: &[u8], name: &[u8]) -> Result<(), Memory>
 fn with_number_name(text: &mut Text, kind: &[u8], number: u32, name: &[u8]) -> Result<(), Memory>
     ensures { OnOk result (text.new ≡ text.old ++ with_number_name kind.now number name.now) }
 {
-    with_number(text, kind, u64::from(number))?;
+    with_number(text, kind, u128::from(number))?;
     text.bytes(b" ")?;
     text.bytes(name)
 }
@@ -51,7 +51,7 @@ fn with_names(text: &mut Text, kind: &[u8], a: &[u8], b: &[u8]) -> Result<(), Me
 }
 
 /// A kind and two numbers.
-fn with_numbers(text: &mut Text, kind: &[u8], m: u64, n: u64) -> Result<(), Memory>
+fn with_numbers(text: &mut Text, kind: &[u8], m: u128, n: u128) -> Result<(), Memory>
     ensures { OnOk result (text.new ≡ text.old ++ with_numbers kind.now m n) }
 {
     with_number(text, kind, m)?;
@@ -64,8 +64,8 @@ fn with_name_numbers(
     text: &mut Text,
     kind: &[u8],
     name: &[u8],
-    m: u64,
-    n: u64,
+    m: u128,
+    n: u128,
 ) -> Result<(), Memory>
     ensures { OnOk result (text.new ≡ text.old ++ with_numbers (with_name kind.now name.now) m n) }
 {
@@ -80,10 +80,10 @@ fn words_text(text: &mut Text, fault: &WordsFault) -> Result<(), Memory>
     ensures { OnOk result (text.new ≡ text.old ++ words_text fault.now) }
 {
     match fault {
-        WordsFault::Shape { word } => with_number(text, b"shape", *word),
-        WordsFault::Twice { word } => with_number(text, b"twice", *word),
-        WordsFault::Number { word } => with_number(text, b"number", *word),
-        WordsFault::SameName { word } => with_number(text, b"same-name", *word),
+        WordsFault::Shape { word } => with_number(text, b"shape", u128::from(*word)),
+        WordsFault::Twice { word } => with_number(text, b"twice", u128::from(*word)),
+        WordsFault::Number { word } => with_number(text, b"number", u128::from(*word)),
+        WordsFault::SameName { word } => with_number(text, b"same-name", u128::from(*word)),
     }
 }
 
@@ -91,8 +91,8 @@ fn scan_text(text: &mut Text, error: &ScanError) -> Result<(), Memory>
     ensures { OnOk result (text.new ≡ text.old ++ scan_text error.now) }
 {
     match error {
-        ScanError::UnclosedQuote { line } => with_number(text, b"quote", u64::from(*line)),
-        ScanError::NotText { line } => with_number(text, b"not-text", u64::from(*line)),
+        ScanError::UnclosedQuote { line } => with_number(text, b"quote", u128::from(*line)),
+        ScanError::NotText { line } => with_number(text, b"not-text", u128::from(*line)),
         ScanError::Memory => text.bytes(b"memory"),
     }
 }
@@ -124,8 +124,8 @@ fn lef_text(text: &mut Text, error: &LefError) -> Result<(), Memory>
 {
     match error {
         LefError::Scan(fault) => scan_text(text, fault),
-        LefError::Expected { line } => with_number(text, b"expected", u64::from(*line)),
-        LefError::Unknown { line } => with_number(text, b"unknown", u64::from(*line)),
+        LefError::Expected { line } => with_number(text, b"expected", u128::from(*line)),
+        LefError::Unknown { line } => with_number(text, b"unknown", u128::from(*line)),
         LefError::Number { line, fault } => {
             with_number_name(text, b"number", *line, fault_word(*fault))
         }
@@ -141,7 +141,7 @@ fn lef_text(text: &mut Text, error: &LefError) -> Result<(), Memory>
         }
         LefError::OddWidth { name } => with_name(text, b"odd-width", name.bytes()),
         LefError::Refused { line, word } => with_number_name(text, b"refused", *line, word.bytes()),
-        LefError::Unended { line } => with_number(text, b"unended", u64::from(*line)),
+        LefError::Unended { line } => with_number(text, b"unended", u128::from(*line)),
         LefError::Memory => text.bytes(b"memory"),
     }
 }
@@ -151,20 +151,20 @@ fn def_text(text: &mut Text, error: &DefError) -> Result<(), Memory>
 {
     match error {
         DefError::Scan(fault) => scan_text(text, fault),
-        DefError::Expected { line } => with_number(text, b"expected", u64::from(*line)),
-        DefError::Unknown { line } => with_number(text, b"unknown", u64::from(*line)),
+        DefError::Expected { line } => with_number(text, b"expected", u128::from(*line)),
+        DefError::Unknown { line } => with_number(text, b"unknown", u128::from(*line)),
         DefError::Number { line, fault } => {
             with_number_name(text, b"number", *line, fault_word(*fault))
         }
         DefError::Twice { line, name } => with_number_name(text, b"twice", *line, name.bytes()),
         DefError::Refused { line, word } => with_number_name(text, b"refused", *line, word.bytes()),
-        DefError::Unended { line } => with_number(text, b"unended", u64::from(*line)),
+        DefError::Unended { line } => with_number(text, b"unended", u128::from(*line)),
         DefError::Count {
             section,
             said,
             found,
         } => with_name_numbers(text, b"count", section.bytes(), *said, *found),
-        DefError::DiePolygon { line } => with_number(text, b"die-polygon", u64::from(*line)),
+        DefError::DiePolygon { line } => with_number(text, b"die-polygon", u128::from(*line)),
         DefError::Missing { what } => with_name(text, b"missing", what.bytes()),
         DefError::Memory => text.bytes(b"memory"),
     }
@@ -175,11 +175,11 @@ fn guide_text(text: &mut Text, error: &GuideError) -> Result<(), Memory>
 {
     match error {
         GuideError::Scan(fault) => scan_text(text, fault),
-        GuideError::Expected { line } => with_number(text, b"expected", u64::from(*line)),
-        GuideError::Number { line } => with_number(text, b"number", u64::from(*line)),
-        GuideError::EmptyBox { line } => with_number(text, b"empty-box", u64::from(*line)),
+        GuideError::Expected { line } => with_number(text, b"expected", u128::from(*line)),
+        GuideError::Number { line } => with_number(text, b"number", u128::from(*line)),
+        GuideError::EmptyBox { line } => with_number(text, b"empty-box", u128::from(*line)),
         GuideError::Twice { line, name } => with_number_name(text, b"twice", *line, name.bytes()),
-        GuideError::Unended { line } => with_number(text, b"unended", u64::from(*line)),
+        GuideError::Unended { line } => with_number(text, b"unended", u128::from(*line)),
         GuideError::Memory => text.bytes(b"memory"),
     }
 }
@@ -188,14 +188,14 @@ fn wire_text(text: &mut Text, fault: &WireFault) -> Result<(), Memory>
     ensures { OnOk result (text.new ≡ text.old ++ wire_text fault.now) }
 {
     match fault {
-        WireFault::Expected { line } => with_number(text, b"expected", u64::from(*line)),
-        WireFault::Number { line } => with_number(text, b"number", u64::from(*line)),
-        WireFault::NoSuchLayer { line } => with_number(text, b"no-such-layer", u64::from(*line)),
-        WireFault::NoSuchVia { line } => with_number(text, b"no-such-via", u64::from(*line)),
-        WireFault::FirstStar { line } => with_number(text, b"first-star", u64::from(*line)),
-        WireFault::Diagonal { line } => with_number(text, b"diagonal", u64::from(*line)),
-        WireFault::ViaOffLayer { line } => with_number(text, b"via-off-layer", u64::from(*line)),
-        WireFault::Refused { line } => with_number(text, b"refused", u64::from(*line)),
+        WireFault::Expected { line } => with_number(text, b"expected", u128::from(*line)),
+        WireFault::Number { line } => with_number(text, b"number", u128::from(*line)),
+        WireFault::NoSuchLayer { line } => with_number(text, b"no-such-layer", u128::from(*line)),
+        WireFault::NoSuchVia { line } => with_number(text, b"no-such-via", u128::from(*line)),
+        WireFault::FirstStar { line } => with_number(text, b"first-star", u128::from(*line)),
+        WireFault::Diagonal { line } => with_number(text, b"diagonal", u128::from(*line)),
+        WireFault::ViaOffLayer { line } => with_number(text, b"via-off-layer", u128::from(*line)),
+        WireFault::Refused { line } => with_number(text, b"refused", u128::from(*line)),
         WireFault::Memory => text.bytes(b"memory"),
     }
 }
@@ -223,10 +223,10 @@ fn limited_word(what: Limited) -> &'static [u8]
     }
 }
 
-fn limit_text(text: &mut Text, what: &[u8], count: u64, most: u64) -> Result<(), Memory>
+fn limit_text(text: &mut Text, what: &[u8], count: u128, most: u64) -> Result<(), Memory>
     ensures { OnOk result (text.new ≡ text.old ++ limit_text what.now count most) }
 {
-    with_name_numbers(text, b"limit", what, count, most)
+    with_name_numbers(text, b"limit", what, count, u128::from(most))
 }
 
 fn build_text(text: &mut Text, error: &BuildError) -> Result<(), Memory>
@@ -234,7 +234,7 @@ fn build_text(text: &mut Text, error: &BuildError) -> Result<(), Memory>
 {
     match error {
         BuildError::Scale { lef, def } => {
-            with_numbers(text, b"scale", u64::from(*lef), u64::from(*def))
+            with_numbers(text, b"scale", u128::from(*lef), u128::from(*def))
         }
         BuildError::NoMacro { name } => with_name(text, b"no-macro", name.bytes()),
         BuildError::NoComponent { name } => with_name(text, b"no-component", name.bytes()),
@@ -256,9 +256,9 @@ fn kind_text(text: &mut Text, refusal: &Refusal) -> Result<(), Memory>
 {
     match refusal {
         Refusal::Words(fault) => words_text(text, fault),
-        Refusal::LefBytes { read } => limit_text(text, b"lef-bytes", *read, LEF_MOST),
-        Refusal::DefBytes { read } => limit_text(text, b"def-bytes", *read, DEF_MOST),
-        Refusal::GuideBytes { read } => limit_text(text, b"guide-bytes", *read, GUIDE_MOST),
+        Refusal::LefBytes { read } => limit_text(text, b"lef-bytes", u128::from(*read), LEF_MOST),
+        Refusal::DefBytes { read } => limit_text(text, b"def-bytes", u128::from(*read), DEF_MOST),
+        Refusal::GuideBytes { read } => limit_text(text, b"guide-bytes", u128::from(*read), GUIDE_MOST),
         Refusal::Lef(error) => lef_text(text, error),
         Refusal::Def(error) => def_text(text, error),
         Refusal::Guide(error) => guide_text(text, error),
@@ -275,7 +275,7 @@ pub fn error_line(alloc: Global, refusal: &Refusal) -> Result<Vec<u8>, Memory>
     ensures { IfOk result (λ line. line.items ≡ error_line refusal.now) }
 {
     let mut text = Text::new(alloc);
-    with_number(&mut text, b"error", u64::from(refusal.status()))?;
+    with_number(&mut text, b"error", u128::from(refusal.status()))?;
     text.bytes(b" ")?;
     kind_text(&mut text, refusal)?;
     text.bytes(b"\n")?;

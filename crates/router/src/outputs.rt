@@ -8,7 +8,7 @@ ghost use Rattle.router.specs.Made.{IsReady, AreOutputs};
 
 use def_out::write_def;
 use journal_text::print;
-use report::report;
+use report::report_of_state;
 use ripup::finish;
 use rt_base::{Memory, Seq};
 use std::alloc::Global;
@@ -77,7 +77,7 @@ pub(crate) fn make_outputs(alloc: Global, text: &[u8], design: &Design) -> Resul
     let state = fold(alloc, design, journal.blocks())?;
     let routed = write_def(alloc, text, design, &state)?;
     let lines = print(alloc, design, &journal)?;
-    let report = report(alloc, design, &journal)?;
+    let report = report_of_state(alloc, design, &state, journal.blocks())?;
     Ok(Outputs {
         status: routed_status(design, &state),
         journal,

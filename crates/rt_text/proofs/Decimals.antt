@@ -1,12 +1,13 @@
 -- Printed numbers are plain decimal, and plain decimal of a number is what is printed.
-use Rattle.std.proofs.Common.{◌≡◌, ◌∙◌, false, sym, All, ℕ, ◌<◌, ◌^◌, ℤ, pos, negsuc, suc, zero, List, ◌∷◌, length, get_or, ap, refl, subst, arith}
+use Rattle.std.proofs.Common.{◌≡◌, ◌∙◌, false, sym, All, ℕ, ◌<◌, ◌^◌, ℤ, pos, negsuc, suc, zero, List, [], ◌∷◌, ◌++◌, ◌+◌, ◌/◌, ◌%◌, ◌≤◌, length, length-append, get_or, ap, refl, subst, arith}
 use Rattle.std.specs.Prelude.{slice_index}
 use Rattle.std.specs.Fmt.{decimal, signed_decimal}
 use Rattle.std.specs.Str.Parse.{AllDigits, digits_value, signed_digits_value, starts_with_minus}
 use Rattle.std.specs.Int.{IsInRange}
 use lib.Signed.{mag}
 use Rattle.std.proofs.Math.IntN.{neg_ℤ}
-use Rattle.std.proofs.lemmas.Fmt.{decimal_is_IsNumeral, first_decimal, decimal_digit, decimal-digits_value}
+use Rattle.std.proofs.lemmas.Fmt.{decimal_is_IsNumeral, decimal_is_IsNumeral_wide, decimal_by_steps_wide, decimal_digit, decimal-digits_value}
+use Rattle.std.proofs.Math.ListN.{get_or-append}
 use Rattle.std.proofs.lemmas.Str.Parse.{IsNumeralModel, numerals_by_value, tells_digits, digit_at, without_leading_plus_none}
 use Rattle.std.proofs.lemmas.List.Elements.{All-from_get_or}
 use Rattle.rt_text.specs.Decimal.{IsPlainNatural, IsPlainInteger}
@@ -14,21 +15,37 @@ use Rattle.rt_text.specs.Decimal.{IsPlainNatural, IsPlainInteger}
 model : IsNumeralModel (AllDigits 10) (digits_value 10)
 model = numerals_by_value _ tells_digits
 
-no_leading_zero : (n : ℕ) → n < 2 ^ 64 → slice_index (decimal n) 0 ≡ 48 → length (decimal n) ≡ 1
+-- there is a first digit, and it is 0 for 0 alone
+abbrev IsLed : ℕ → List ℕ → Type 0
+IsLed n ds = (0 < length ds) × (0 < n → 48 < get_or ds 0 0)
+
+led_more : (n : ℕ) (ds : List ℕ) → 10 ≤ n → IsLed (n / 10) ds → IsLed n (ds ++ (48 + n % 10) ∷ [])
+led_more n ds many h =
+    let last : List ℕ = (48 + n % 10) ∷ [] in
+    (omega (arith, length-append ds last, h.0), λ some. omega (arith, get_or-append ds last 0 0 h.0, h.1 (omega arith)))
+
+first_digit : (n : ℕ) → n < 10 ^ 64 → IsLed n (decimal n)
+first_digit = decimal_by_steps_wide IsLed (λ n few. (omega arith, λ some. omega arith)) led_more
+
+no_leading_zero : (n : ℕ) → n < 10 ^ 64 → slice_index (decimal n) 0 ≡ 48 → length (decimal n) ≡ 1
 no_leading_zero zero small h = ap length (decimal_digit 0 (omega arith))
 no_leading_zero (suc n) small h =
-    let above : 48 < get_or (decimal (suc n)) 0 0 = first_decimal (suc n) (omega arith) small in
+    let above : 48 < get_or (decimal (suc n)) 0 0 = (first_digit (suc n) small).1 (omega arith) in
     absurd (omega (arith, above, h))
 
-pub decimal_is_plain : (n : ℕ) → n < 2 ^ 64 → IsPlainNatural n (decimal n)
-decimal_is_plain n small =
-    let read = decimal_is_IsNumeral n small in
+pub wide_decimal_is_plain : (n : ℕ) → n < 2 ^ 128 → IsPlainNatural n (decimal n)
+wide_decimal_is_plain n below =
+    let small : n < 10 ^ 64 = omega (arith, below) in
+    let read = decimal_is_IsNumeral_wide n small in
     record {
       digits = read.0.1;
       some = read.0.0;
       no_leading_zero = no_leading_zero n small;
       value = read.1;
     }
+
+pub decimal_is_plain : (n : ℕ) → n < 2 ^ 64 → IsPlainNatural n (decimal n)
+decimal_is_plain n small = wide_decimal_is_plain n (omega (arith, small))
 
 pub plain_is_decimal : (n : ℕ) (ds : List ℕ) → n < 2 ^ 64 → IsPlainNatural n ds → decimal n ≡ ds
 plain_is_decimal n ds small p =

@@ -57,8 +57,8 @@ impl Text {
     }
 
     /// Appends a number in plain decimal.
-    #[tactic(auto, using(crate::proofs::Decimals::decimal_is_plain))]
-    pub fn natural(&mut self, number: u64) -> Result<(), Memory>
+    #[tactic(auto, using(crate::proofs::Decimals::wide_decimal_is_plain))]
+    pub fn natural(&mut self, number: u128) -> Result<(), Memory>
         // What is printed reads back to the number.
         ensures plain { IsPlainNatural number (decimal number) }
         ensures ok { OnOk result (self.new ≡ self.old ++ decimal number) }

@@ -4,12 +4,13 @@ use std::test::Fail;
 
 #[test]
 fn naturals(rt: HostRuntime) -> Result<(), Fail> {
-    let rows: [(u64, &[u8]); 5] = [
+    let rows: [(u128, &[u8]); 6] = [
         (0, b"0"),
         (7, b"7"),
         (10, b"10"),
         (4294967296, b"4294967296"),
-        (u64::MAX, b"18446744073709551615"),
+        (18446744073709551616, b"18446744073709551616"),
+        (u128::MAX, b"340282366920938463463374607431768211455"),
     ];
     for (number, printed) in rows {
         let mut text = Text::new(rt.alloc());

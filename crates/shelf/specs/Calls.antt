@@ -1,13 +1,17 @@
 -- Calls that come one after another, some of which fail.
-use Rattle.std.specs.Prelude.{◌==◌, ℕ, ◌/◌, Bool, List, length, take, if◌then◌else◌}
+use Rattle.std.specs.Prelude.{◌==◌, ℕ, ◌+◌, ◌/◌, min, Bool, List, length, take, if◌then◌else◌}
 use Rattle.std.specs.List.{list_any}
-use Rattle.shelf.specs.Faults.{counted}
+use Rattle.shelf.specs.Faults.{count_end}
 
 -- the numbers of the calls that fail, how many calls came, and the count of faults
 pub record CallState : Type 0 where
   pub fails : List ℕ
   pub came : ℕ
   pub faults : ℕ
+
+-- one more, or the end of the type
+abbrev pub counted : ℕ → ℕ
+counted n = min (n + 1) count_end
 
 -- before the first call
 abbrev pub uncalled : List ℕ → CallState

@@ -1,5 +1,6 @@
 //! Calls that come one after another, some of which fail.
-ghost use Rattle.std.specs.Prelude.{◌≡◌, ◌/◌, ◌≤◌, take, length};
+ghost use Rattle.std.specs.Prelude.{◌≡◌, ◌/◌, ◌<◌, take, length, IsTrue, IsFalse};
+ghost use Rattle.shelf.specs.Faults.{count_end, HasRisen};
 ghost use Rattle.shelf.specs.Calls.{uncalled, is_failing, called, faulted};
 
 use std::marker::Model;
@@ -42,12 +43,21 @@ impl Calls {
         self.fails.iter().any(|fails| u64::from(*fails) == number)
     }
 
+    /// Whether no further fault can be counted.
+    pub(crate) fn is_full(&self) -> bool
+        ensures full { IsTrue result → self.now.faults ≡ count_end }
+        ensures room { IsFalse result → self.now.faults < count_end }
+    {
+        self.faults == u64::MAX
+    }
+
     /// Counts a fault.
     pub(crate) fn count_fault(&mut self)
+        requires { self.old.faults < count_end }
         ensures counted { self.new ≡ faulted self.old }
-        ensures grows { self.old.faults ≤ self.new.faults }
+        ensures risen { HasRisen self.old.faults self.new.faults }
     {
-        self.faults = self.faults.saturating_add(1);
+        self.faults += 1;
     }
 }
 

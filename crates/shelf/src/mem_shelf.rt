@@ -1,8 +1,9 @@
 //! A shelf in memory, for tests.
-ghost use Rattle.std.specs.Prelude.{◌≡◌, [], List, Some, IfOk, OnOk, OnErr, IsErrOf, IsTrue, IsFalse, ◌↔◌, ◌+◌, ◌≤◌, vec_len, refl, option_copied, find, position, string_bytes};
+ghost use Rattle.std.specs.Prelude.{◌≡◌, ◌⊎◌, [], List, Some, IfOk, OnOk, OnErr, IsErrOf, IsTrue, IsFalse, ◌↔◌, ◌+◌, ◌≤◌, vec_len, refl, option_copied, find, position, string_bytes};
 ghost use Rattle.std.specs.Str.{bytes_eq};
 ghost use Rattle.std.specs.FinMap as map;
-ghost use Rattle.shelf.specs.Calls.{uncalled, called, is_failing};
+ghost use Rattle.shelf.specs.Calls.{uncalled, called, faulted, is_failing};
+ghost use Rattle.shelf.specs.Faults.{HasRisen};
 ghost use Rattle.shelf.specs.MemShelf.{files_of, fails_take, after_take, after_put};
 ghost use Rattle.shelf.specs.Shelf.{IfLong, HoldsAtLeast};
 
@@ -15,7 +16,8 @@ use std::marker::Model;
 
 /// Files in memory. The calls with the given numbers fail, counted from 0 over takes and puts alike.
 /// A take of a name that is not held fails, too. A put that fails leaves the first half of the bytes,
-/// rounded down. It tells its files, and is sure where no call fails.
+/// rounded down. Where no further fault can be counted, a call that fails answers want of memory and
+/// leaves the files as they are. It tells its files, and is sure where no call fails.
 #[derive(Drop)]
 pub struct MemShelf {
     alloc: Global,
@@ -79,6 +81,20 @@ fn store(
     Ok(())
 }
 
+/// Why a take that fails gives no bytes: a fault, or want of memory where none can be counted.
+fn take_fault(calls: &mut Calls) -> TakeFault
+    ensures failed { (result ≡ TakeFault.Failed) ↔ HasRisen calls.old.faults calls.new.faults }
+    ensures no_other { (result ≡ TakeFault.Failed) ⊎ (result ≡ TakeFault.Memory) }
+    ensures after { calls.new ≡ faulted calls.old }
+    ensures count { calls.old.faults ≤ calls.new.faults }
+{
+    if calls.is_full() {
+        return TakeFault::Memory;
+    }
+    calls.count_fault();
+    TakeFault::Failed
+}
+
 impl MemShelf {
     /// A shelf with these files, of which the first counts where several have one name. The calls
     /// with the listed numbers fail. Takes no memory.
@@ -114,18 +130,16 @@ impl Shelf for MemShelf {
     fn take(&mut self, alloc: Global, name: &str, limit: u64) -> Result<Vec<u8>, TakeFault>
         ensures bytes { IfOk result (λ bytes. map.get self.old.files name.now ≡ Some bytes.items) }
         ensures within { IfOk result (λ bytes. vec_len bytes ≤ limit) }
-        ensures failed { IsErrOf result TakeFault.Failed ↔ IsTrue (fails_take self.old name.now) }
+        ensures failed { IsErrOf result TakeFault.Failed ↔ IsTrue (fails_take self.old name.now) × HasRisen self.old.calls.faults self.new.calls.faults }
         ensures long { IfLong result (λ read. (read ≡ limit + 1) × HoldsAtLeast (Some self.old.files) name.now read) }
         ensures after { self.new ≡ after_take self.old name.now }
         ensures count { self.old.calls.faults ≤ self.new.calls.faults }
     {
         if self.calls.is_next_failing() {
-            self.calls.count_fault();
-            return Err(TakeFault::Failed);
+            return Err(take_fault(&mut self.calls));
         }
         let Some(bytes) = bytes_of(&self.files, name) else {
-            self.calls.count_fault();
-            return Err(TakeFault::Failed);
+            return Err(take_fault(&mut self.calls));
         };
         if bytes.len() as u64 > limit {
             return Err(TakeFault::Long { read: limit + 1 });
@@ -135,11 +149,14 @@ impl Shelf for MemShelf {
 
     fn put(&mut self, name: &str, bytes: &[u8]) -> Result<(), PutFault>
         ensures ok { OnOk result (IsFalse (is_failing self.old.calls) × (self.new ≡ after_put self.old name.now bytes.now)) }
-        ensures failed { IsErrOf result PutFault.Failed → IsTrue (is_failing self.old.calls) × (self.new ≡ after_put self.old name.now bytes.now) }
+        ensures failed { IsErrOf result PutFault.Failed → IsTrue (is_failing self.old.calls) × HasRisen self.old.calls.faults self.new.calls.faults × (self.new ≡ after_put self.old name.now bytes.now) }
         ensures memory { IsErrOf result PutFault.Memory → self.new ≡ record self.old { calls = called self.old.calls } }
         ensures count { self.old.calls.faults ≤ self.new.calls.faults }
     {
         if self.calls.is_next_failing() {
+            if self.calls.is_full() {
+                return Err(PutFault::Memory);
+            }
             store(&mut self.files, self.alloc, name, first_half(bytes))?;
             self.calls.count_fault();
             return Err(PutFault::Failed);

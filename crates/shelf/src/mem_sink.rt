@@ -1,6 +1,7 @@
 //! A sink in memory, for tests.
 ghost use Rattle.std.specs.Prelude.{◌≡◌, ◌++◌, ◌≤◌, [], Some, IsErrOf, IsTrue, IsFalse, OnOk, OnErr};
 ghost use Rattle.shelf.specs.Calls.{uncalled, called, is_failing};
+ghost use Rattle.shelf.specs.Faults.{HasRisen};
 ghost use Rattle.shelf.specs.MemSink.{after_say};
 
 use crate::calls::{Calls, first_half};
@@ -11,7 +12,8 @@ use std::alloc::Global;
 use std::marker::Model;
 
 /// A text in memory. The calls with the given numbers fail, counted from 0, and add the first half of
-/// their bytes, rounded down. It tells its text, and is sure where no call fails.
+/// their bytes, rounded down. Where no further fault can be counted, such a call answers want of memory
+/// and adds nothing. It tells its text, and is sure where no call fails.
 #[derive(Drop)]
 pub struct MemSink {
     text: Vec<u8>,
@@ -63,11 +65,14 @@ impl Sink for MemSink {
 
     fn say(&mut self, bytes: &[u8]) -> Result<(), SayFault>
         ensures ok { OnOk result (IsFalse (is_failing self.old.calls) × (self.new ≡ after_say self.old bytes.now)) }
-        ensures failed { IsErrOf result SayFault.Failed → IsTrue (is_failing self.old.calls) × (self.new ≡ after_say self.old bytes.now) }
+        ensures failed { IsErrOf result SayFault.Failed → IsTrue (is_failing self.old.calls) × HasRisen self.old.calls.faults self.new.calls.faults × (self.new ≡ after_say self.old bytes.now) }
         ensures memory { IsErrOf result SayFault.Memory → self.new ≡ record self.old { calls = called self.old.calls } }
         ensures count { self.old.calls.faults ≤ self.new.calls.faults }
     {
         if self.calls.is_next_failing() {
+            if self.calls.is_full() {
+                return Err(SayFault::Memory);
+            }
             add(&mut self.text, first_half(bytes))?;
             self.calls.count_fault();
             return Err(SayFault::Failed);

@@ -1,6 +1,6 @@
 //! The shelf of the file system.
-ghost use Rattle.std.specs.Prelude.{◌≡◌, ◌+◌, ◌-◌, ◌^◌, ◌<◌, ◌≤◌, min, None, take, vec_len, IfOk, IfSome, IsErrOf, OnOk, OnErr};
-ghost use Rattle.shelf.specs.Faults.{counted};
+ghost use Rattle.std.specs.Prelude.{◌≡◌, ◌+◌, ◌-◌, ◌^◌, ◌<◌, ◌≤◌, min, None, take, vec_len, IfOk, IfSome, IsErrOf, IsTrue, IsFalse};
+ghost use Rattle.shelf.specs.Faults.{count_end};
 ghost use Rattle.shelf.specs.Shelf.{IfLong};
 
 use crate::fault::{PutFault, TakeFault};
@@ -12,7 +12,9 @@ use std::{fs, io};
 
 /// The files of a runtime, named by their paths. It tells none of them and is never sure: what a file
 /// holds is the system's word, and nothing is proved of it. Each error that the system answers counts
-/// as a fault, but for want of memory at a take. A take asks for no more than `limit` bytes and one.
+/// as a fault, but for want of memory at a take. Where no further fault can be counted, a put answers want
+/// of memory and writes nothing, and a take answers it in place of a fault. A take asks for no more than
+/// `limit` bytes and one.
 #[derive(Drop)]
 pub struct PlainShelf<R> {
     rt: R,
@@ -38,18 +40,26 @@ impl<R: Files> PlainShelf<R> {
         PlainShelf { rt, faults: 0 }
     }
 
-    /// How many faults came so far. The count stands still at its end.
+    /// How many faults came so far.
     pub fn faults(&self) -> u64
         ensures { result ≡ fault_count self.now }
     {
         self.faults
     }
 
-    fn count_fault(&mut self)
-        ensures counted { fault_count self.new ≡ counted (fault_count self.old) }
-        ensures grows { fault_count self.old ≤ fault_count self.new }
+    /// Whether no further fault can be counted.
+    fn is_full(&self) -> bool
+        ensures full { IsTrue result → fault_count self.now ≡ count_end }
+        ensures room { IsFalse result → fault_count self.now < count_end }
     {
-        self.faults = self.faults.saturating_add(1);
+        self.faults == u64::MAX
+    }
+
+    fn count_fault(&mut self)
+        requires { fault_count self.old < count_end }
+        ensures { fault_count self.new ≡ fault_count self.old + 1 }
+    {
+        self.faults += 1;
     }
 
     /// The first `limit` bytes of a file and one more, or all where it has fewer.
@@ -79,7 +89,7 @@ impl<R: Files> Shelf for PlainShelf<R> {
     fn take(&mut self, alloc: Global, name: &str, limit: u64) -> Result<Vec<u8>, TakeFault>
         ensures within { IfOk result (λ bytes. vec_len bytes ≤ limit) }
         ensures above { IfLong result (λ read. limit < read) }
-        ensures failed { IsErrOf result TakeFault.Failed → fault_count self.new ≡ counted (fault_count self.old) }
+        ensures failed { IsErrOf result TakeFault.Failed → fault_count self.new ≡ fault_count self.old + 1 }
         ensures no_fault { ¬ IsErrOf result TakeFault.Failed → fault_count self.new ≡ fault_count self.old }
         ensures count { fault_count self.old ≤ fault_count self.new }
     {
@@ -91,7 +101,9 @@ impl<R: Files> Shelf for PlainShelf<R> {
                 }
                 Ok(bytes)
             }
-            Err(e) if e.kind() == ErrorKind::OutOfMemory => Err(TakeFault::Memory),
+            Err(e) if self.is_full() || e.kind() == ErrorKind::OutOfMemory => {
+                Err(TakeFault::Memory)
+            }
             Err(_) => {
                 self.count_fault();
                 Err(TakeFault::Failed)
@@ -100,11 +112,14 @@ impl<R: Files> Shelf for PlainShelf<R> {
     }
 
     fn put(&mut self, name: &str, bytes: &[u8]) -> Result<(), PutFault>
-        ensures no_fault { OnOk result (fault_count self.new ≡ fault_count self.old) }
-        ensures failed { OnErr result (fault_count self.new ≡ counted (fault_count self.old)) }
+        ensures no_fault { ¬ IsErrOf result PutFault.Failed → fault_count self.new ≡ fault_count self.old }
+        ensures failed { IsErrOf result PutFault.Failed → fault_count self.new ≡ fault_count self.old + 1 }
         ensures count { fault_count self.old ≤ fault_count self.new }
-        ensures no_memory { ¬ IsErrOf result PutFault.Memory }
+        ensures memory { IsErrOf result PutFault.Memory → fault_count self.old ≡ count_end }
     {
+        if self.is_full() {
+            return Err(PutFault::Memory);
+        }
         if self.write(name, bytes).is_err() {
             self.count_fault();
             return Err(PutFault::Failed);

@@ -1,6 +1,6 @@
 //! The sink over a writer.
-ghost use Rattle.std.specs.Prelude.{◌≡◌, ◌≤◌, None, IsErrOf, OnOk, OnErr};
-ghost use Rattle.shelf.specs.Faults.{counted};
+ghost use Rattle.std.specs.Prelude.{◌≡◌, ◌+◌, ◌≤◌, None, IsErrOf, OnOk};
+ghost use Rattle.shelf.specs.Faults.{count_end};
 ghost use Rattle.std.specs.Io.KnownBytes.{Appends};
 
 use crate::fault::SayFault;
@@ -10,7 +10,8 @@ use std::io::Write;
 
 /// What is written to a writer, such as standard output. It tells no text and is never sure: what the
 /// writer does with the bytes is the system's word, and nothing is proved of it. Each error that the
-/// writer answers counts as a fault.
+/// writer answers counts as a fault. Where no further fault can be counted, it answers want of memory and
+/// writes nothing.
 #[derive(Drop)]
 pub struct PlainSink<W> {
     out: W,
@@ -35,7 +36,7 @@ impl<W: Write> PlainSink<W> {
         PlainSink { out, faults: 0 }
     }
 
-    /// How many faults came so far. The count stands still at its end.
+    /// How many faults came so far.
     pub fn faults(&self) -> u64
         ensures { result ≡ fault_count self.now }
     {
@@ -55,13 +56,16 @@ impl<W: Write> Sink for PlainSink<W> {
     fn say(&mut self, bytes: &[u8]) -> Result<(), SayFault>
         // Where the writer tells what it holds, that has grown by the bytes.
         ensures written { OnOk result (Appends (W.contents (writer_of self.old)) (W.contents (writer_of self.new)) bytes.now) }
-        ensures no_fault { OnOk result (fault_count self.new ≡ fault_count self.old) }
-        ensures failed { OnErr result (fault_count self.new ≡ counted (fault_count self.old)) }
+        ensures no_fault { ¬ IsErrOf result SayFault.Failed → fault_count self.new ≡ fault_count self.old }
+        ensures failed { IsErrOf result SayFault.Failed → fault_count self.new ≡ fault_count self.old + 1 }
         ensures count { fault_count self.old ≤ fault_count self.new }
-        ensures no_memory { ¬ IsErrOf result SayFault.Memory }
+        ensures memory { IsErrOf result SayFault.Memory → fault_count self.old ≡ count_end }
     {
+        if self.faults == u64::MAX {
+            return Err(SayFault::Memory);
+        }
         if write_whole(&mut self.out, bytes).is_err() {
-            self.faults = self.faults.saturating_add(1);
+            self.faults += 1;
             return Err(SayFault::Failed);
         }
         Ok(())

@@ -1,5 +1,5 @@
 -- A right block is one of the design, and so is each history.
-use Rattle.std.proofs.Common.{◌≡◌, ℕ, ◌+◌, ◌<◌, List, [], ◌∷◌, ◌++◌, Bool, true, false, cond, ◌&&◌, sym, subst, length, get_or, All, arith}
+use Rattle.std.proofs.Common.{◌≡◌, ℕ, ◌+◌, ◌<◌, List, [], ◌∷◌, ◌++◌, Bool, true, false, cond, ◌&&◌, sym, subst, length, get_or, fold, All, arith}
 use Rattle.std.proofs.lemmas.List.Elements.{All-nil, All-cons}
 use Rattle.rt_base.specs.declared.walk.Walk.{Walk}
 use Rattle.track_graph.specs.declared.design.Design.{Design}
@@ -12,7 +12,7 @@ use Rattle.track_graph.specs.Designs.{IsDesign}
 use Rattle.track_graph.specs.Histories.{IsRight, IsHistory, IsHistoryFrom, crossed_from}
 use Rattle.track_graph.specs.Readings.{may_rip}
 use Rattle.track_graph.specs.Searches.{some_conflict}
-use Rattle.track_graph.specs.States.{after, first_state, net_shapes}
+use Rattle.track_graph.specs.States.{after, first_state, net_shapes, state_of}
 use Rattle.track_graph.specs.Walks.{walk_shapes_of}
 use Rattle.track_graph.proofs.StateLemmas.{emptied-kept, with_walk-kept, with_mark-kept, first-kept}
 use Rattle.track_graph.proofs.WalkLemmas.{routable_within, walk_in_state}
@@ -57,3 +57,11 @@ history-from d s (b ∷ bs) ok of_design h =
 -- a history is a journal of the design
 pub history-journal_of : (d : Design) (blocks : List Block) → IsDesign d → IsHistory d blocks → IsJournalOf d blocks
 history-journal_of d blocks ok h = history-from d (first_state d) blocks ok (first-kept d) h
+
+kept-from : (d : Design) (s : State) (blocks : List Block) → IsDesign d → IsStateOf d s → IsHistoryFrom d s blocks → IsStateOf d (fold after s blocks)
+kept-from d s [] ok of_design h = of_design
+kept-from d s (b ∷ bs) ok of_design h = kept-from d (after s b) bs ok (after-kept d s b of_design (right-block_of d s b ok of_design h.0)) h.1
+
+-- and the state after it is one of the design
+pub history-kept : (d : Design) (blocks : List Block) → IsDesign d → IsHistory d blocks → IsStateOf d (state_of d blocks)
+history-kept d blocks ok h = kept-from d (first_state d) blocks ok (first-kept d) h

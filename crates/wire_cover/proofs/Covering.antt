@@ -1,23 +1,11 @@
 -- That the same points are covered is an equivalence, and goes through lists put end to end.
 use Rattle.std.proofs.Common.{◌≡◌, ℕ, zero, suc, ◌⊎◌, inl, inr, ⊎_elim, refl, sym, subst, List, [], ◌∷◌, ◌++◌, Any, arith}
+use Rattle.rt_base.proofs.Lists.{Any-cases, Any-none, Any-here, Any-there}
 use Rattle.rt_base.specs.declared.geometry.Point.{Point}
 use Rattle.track_graph.specs.Metal.{Metal}
 use Rattle.written.specs.Cover.{HoldsPart, Covers, CoverSame}
 
 -- ---- one of the elements of a list
-
-Any-none : {X : Type 0} → (P : X → Type 0) → Any P [] → ⊥
-Any-none P (k, y, lt, is, h) = omega arith
-
-pub Any-here : {X : Type 0} → (P : X → Type 0) (x : X) (xs : List X) → P x → Any P (x ∷ xs)
-Any-here P x xs h = (0, x, omega arith, refl, h)
-
-pub Any-there : {X : Type 0} → (P : X → Type 0) (x : X) (xs : List X) → Any P xs → Any P (x ∷ xs)
-Any-there P x xs (k, y, lt, is, h) = (suc k, y, omega arith, is, h)
-
-pub Any-cases : {X : Type 0} → (P : X → Type 0) (x : X) (xs : List X) → Any P (x ∷ xs) → P x ⊎ Any P xs
-Any-cases P x xs (zero, y, lt, is, h) = inl (subst P (sym is) h)
-Any-cases P x xs (suc k, y, lt, is, h) = inr (k, y, omega arith, is, h)
 
 Any-append_left : {X : Type 0} → (P : X → Type 0) (xs ys : List X) → Any P xs → Any P (xs ++ ys)
 Any-append_left P [] ys h = absurd (Any-none P h)

@@ -8,7 +8,7 @@ use Rattle.rt_base.specs.declared.walk.EdgeKind.TheVariants.{Along}
 use Rattle.rt_base.specs.declared.walk.Vertex.{Vertex}
 use Rattle.track_graph.specs.Edges.{IsAlong}
 use Rattle.track_graph.specs.Levels.{TrackSystem, is_horizontal}
-use Rattle.track_graph.specs.Metal.{distance}
+use Rattle.rt_base.specs.Geometry.{distance}
 use Rattle.track_graph.specs.Strokes.{is_up, is_same_direction, goes_on}
 use Rattle.wire_cover.proofs.Joining.{Middle, IsBetween}
 

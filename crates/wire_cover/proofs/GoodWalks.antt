@@ -16,20 +16,21 @@ use Rattle.rt_base.specs.declared.walk.EntryKind.TheVariants.{Pin as AtPin, Stub
 use Rattle.rt_base.specs.declared.walk.Vertex.{Vertex}
 use Rattle.rt_base.specs.declared.walk.Walk.{Walk}
 use Rattle.rt_base.proofs.Ranges.{within-between}
+use Rattle.rt_base.specs.Geometry.{distance, nearest_point}
 use Rattle.track_graph.specs.declared.design.Design.{Design}
 use Rattle.track_graph.specs.declared.history.Stroke.TheVariants.{Run, Via as ViaAt}
 use Rattle.track_graph.specs.Designs.{IsDesign}
 use Rattle.track_graph.specs.Edges.{IsEdge, FitsKind, IsAlong, IsVia, Joins}
-use Rattle.track_graph.specs.Entries.{nearest_point, corner_of, rects_of, rect_of, no_metal}
+use Rattle.track_graph.specs.Entries.{corner_of, rects_of, rect_of, no_metal}
 use Rattle.track_graph.specs.Levels.{track_system_of, IsVertex, levels, is_horizontal}
-use Rattle.track_graph.specs.Metal.{Metal, distance}
+use Rattle.track_graph.specs.Metal.{Metal}
 use Rattle.track_graph.specs.NetWalks.{IsNetEntry, IsNetWalk}
 use Rattle.track_graph.specs.Strokes.{run_between, stub_strokes, entry_kind_strokes, entry_strokes, goes_on, begun_at, path_strokes, walk_strokes}
 use Rattle.track_graph.specs.Walks.{IsPath}
 use Rattle.track_graph.proofs.EntryLemmas.{entry_vertex, nearest_point_within}
 use Rattle.track_graph.proofs.PathLemmas.{strokes-on, strokes-end, strokes-via, strokes-begun}
 use Rattle.wire_cover.specs.GoodStrokes.{IsGoodRun, IsGoodVia, IsGoodStroke, IsNear}
-use Rattle.wire_cover.proofs.LevelLemmas.{All-at}
+use Rattle.rt_base.proofs.Lists.{All-at}
 use Rattle.wire_cover.proofs.Directions.{AreInLine, in_line, in_line-straight, in_line-apart, Begins, GoesTo, goes_to}
 
 -- ---- points near enough

@@ -3,11 +3,11 @@ use Rattle.std.proofs.Common.{◌≡◌, ℕ, suc, ◌/◌, sym, subst, unsigned
 use Rattle.std.specs.Int.{int_min, int_max}
 use Rattle.std.proofs.lemmas.Int.{ints, clamps, by_lt_z}
 use Rattle.std.proofs.Math.Nat.{mul-le-mul_left}
-use Rattle.rt_base.specs.Geometry.{hull_of}
+use Rattle.rt_base.specs.Geometry.{hull_of, grown}
 use Rattle.rt_base.specs.declared.geometry.Point.{Point}
 use Rattle.rt_base.specs.declared.tech.Tech.{Tech}
 use Rattle.track_graph.specs.Levels.{width_of}
-use Rattle.track_graph.specs.Metal.{grown, wire_metal}
+use Rattle.track_graph.specs.Metal.{wire_metal}
 use Rattle.written.specs.Cover.{HoldsPart, CoverSame}
 use Rattle.wire_cover.proofs.Covering.{IsOver, cover_joined}
 

@@ -1,6 +1,7 @@
 -- Levels are routing layers, with the widths of these.
 use Rattle.std.proofs.Common.{Bool, true, false, cond, ◌≡◌, ℕ, zero, suc, ◌+◌, ◌<◌, List, [], ◌∷◌, length, Some, None, slice_get, get_or, ◌≤◌, All, ⊎_elim, refl, sym, subst, arith}
 use Rattle.std.proofs.lemmas.Option.{some_pair_parts, slice_get_cases, slice_get_within, get_or_from_slice_get}
+use Rattle.rt_base.proofs.Lists.{All-at}
 use Rattle.rt_base.specs.Ranges.{IsWidth}
 use Rattle.rt_base.specs.declared.tech.Layer.{Layer}
 use Rattle.rt_base.specs.declared.tech.Tech.{Tech}
@@ -16,9 +17,6 @@ some_at {X} xs k lt = ⊎_elim
     (slice_get_cases xs k).1
 
 -- what holds of each element holds of the one at a place
-pub All-at : {X : Type 0} (P : X → Type 0) (xs : List X) (k : ℕ) (x : X) → All P xs → slice_get xs k ≡ Some x → P x
-All-at P xs k x all at = subst P (get_or_from_slice_get xs k x x at) (all k x (slice_get_within xs k x at))
-
 -- a level's layer is a routing layer, at its number among all layers
 record RoutingAt (n : ℕ) (ls : List Layer) (i : ℕ) (l : Layer) : Type 0 where
   place : ℕ

@@ -15,13 +15,14 @@ use Rattle.rt_base.specs.declared.walk.EntryKind.{EntryKind}
 use Rattle.rt_base.specs.declared.walk.EntryKind.TheVariants.{Pin as AtPin, Stub, Wire as OnWire}
 use Rattle.rt_base.specs.declared.walk.Vertex.{Vertex}
 use Rattle.rt_base.specs.declared.walk.Walk.{Walk}
+use Rattle.rt_base.specs.Geometry.{distance, nearest_point}
 use Rattle.track_graph.specs.declared.design.Design.{Design}
 use Rattle.track_graph.specs.declared.history.Stroke.TheVariants.{Run}
 use Rattle.track_graph.specs.Designs.{IsDesign}
 use Rattle.track_graph.specs.Edges.{FitsKind, IsAlong, edge_metal}
-use Rattle.track_graph.specs.Entries.{nearest_point, corner_of, rect_of, piece_metal, entry_kind_part, entry_part}
+use Rattle.track_graph.specs.Entries.{corner_of, rect_of, piece_metal, entry_kind_part, entry_part}
 use Rattle.track_graph.specs.Levels.{track_system_of, is_horizontal}
-use Rattle.track_graph.specs.Metal.{Metal, distance, wire_metal, via_metal, shapes_of}
+use Rattle.track_graph.specs.Metal.{Metal, wire_metal, via_metal, shapes_of}
 use Rattle.track_graph.specs.NetWalks.{IsNetWalk}
 use Rattle.track_graph.specs.Strokes.{run_between, entry_kind_strokes, entry_strokes, goes_on, begun_at, path_strokes, walk_strokes}
 use Rattle.track_graph.specs.Walks.{IsPath, path_parts, walk_parts, parts_shapes, walk_shapes_of}

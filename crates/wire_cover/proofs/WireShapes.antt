@@ -6,11 +6,10 @@ use Rattle.std.specs.Ordering.{int_eq}
 use Rattle.std.proofs.lemmas.Bool.{false≢true}
 use Rattle.std.proofs.lemmas.Bool.Decides.{Decides-int_eq, nat_tests}
 use Rattle.std.proofs.lemmas.Int.{ints, clamps}
-use Rattle.rt_base.specs.Geometry.{hull_of}
+use Rattle.rt_base.specs.Geometry.{hull_of, distance, grown}
 use Rattle.rt_base.specs.Ranges.{IsWidth}
 use Rattle.rt_base.specs.declared.geometry.Point.{Point}
 use Rattle.rt_base.specs.declared.geometry.Span.{Span}
-use Rattle.track_graph.specs.Metal.{distance, grown}
 use Rattle.def_wires.specs.Meaning.{half, box_of, across, along, wire_between}
 
 -- an even width less its half is its half

@@ -5,13 +5,14 @@ use Rattle.rt_base.specs.Ranges.{IsPointWithin, AreSidesWithin}
 use Rattle.rt_base.specs.declared.geometry.Point.{Point}
 use Rattle.rt_base.specs.declared.tech.Tech.{Tech}
 use Rattle.rt_base.specs.declared.tech.Via.{Via}
+use Rattle.rt_base.specs.Geometry.{distance}
 use Rattle.track_graph.specs.declared.design.Design.{Design}
 use Rattle.track_graph.specs.declared.history.Stroke.{Stroke}
 use Rattle.track_graph.specs.declared.history.Stroke.TheVariants.{Run, Via as ViaAt}
 use Rattle.track_graph.specs.Edges.{Joins}
 use Rattle.track_graph.specs.Entries.{rects_of}
 use Rattle.track_graph.specs.Levels.{levels}
-use Rattle.track_graph.specs.Metal.{Metal, distance}
+use Rattle.track_graph.specs.Metal.{Metal}
 
 -- a straight run on a level between two different points that are near enough
 pub record IsGoodRun (tech : Tech) (level : ℕ) (a b : Point) : Type 0 where

@@ -3,19 +3,13 @@ use Rattle.std.proofs.Common.{◌≡◌, ◌≢◌, ◌∙◌, ℕ, zero, suc, �
 use Rattle.std.specs.Prelude.{◌==◌}
 use Rattle.std.proofs.lemmas.Bool.{eq-eqb, ne_eqb, lt-ltb, le-ltb, both_ways}
 use Rattle.std.proofs.lemmas.List.Elements.{All-head, All-tail}
+use Rattle.rt_base.proofs.Lists.{Any-cases, Any-none}
 use Rattle.rt_base.specs.declared.tech.Tech.{Tech}
 use Rattle.track_graph.specs.Metal.{Metal}
 use Rattle.def_wires.specs.declared.wiring.Joined.{Joined}
 use Rattle.def_wires.specs.declared.joined.Reach.{Reach}
 use Rattle.def_wires.specs.declared.joined.Reach.TheVariants.{Nowhere, One, Two}
 use Rattle.def_wires.specs.Meaning.{is_routing, with_layer, with_metal, the_two, joined_by, other_of}
-
-Any-cases : {X : Type 0} (P : X → Type 0) (x : X) (xs : List X) → Any P (x ∷ xs) → P x ⊎ Any P xs
-Any-cases P x xs (zero, y, lt, is, h) = inl (subst P (sym is) h)
-Any-cases P x xs (suc k, y, lt, is, h) = inr (k, y, omega arith, is, h)
-
-Any-none : {X : Type 0} (P : X → Type 0) → Any P [] → ⊥
-Any-none P (k, y, lt, is, h) = omega arith
 
 -- ---- which of two layers are reached
 

@@ -68,7 +68,7 @@ beyond_is reader layer line k j other e h = rw (e, h) refl
 pub opens : (p : Place) → p.word ≡ codes "(" → opening p ≡ Ok tt
 opens p e = rw e refl
 
-no_sign : (q s p m o c t : Bool) → not (q || s || p || m || o || c || t) ≡ true → (s ≡ false) × (p ≡ false) × (o ≡ false)
+no_sign : (q s p m o c t : Bool) → not (q || (s || p || m || o || c || t)) ≡ true → (s ≡ false) × (p ≡ false) × (o ≡ false)
 no_sign true s p m o c t h = absurd cc
 no_sign false true p m o c t h = absurd cc
 no_sign false false true m o c t h = absurd cc

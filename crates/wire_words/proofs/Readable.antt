@@ -19,10 +19,11 @@ use Rattle.def_wires.specs.Meaning.{is_routing, joined_by, rects_of_via, other_o
 use Rattle.def_wires.specs.Names.{layer_named, via_named, last_from}
 use Rattle.def_wires.specs.Words.{step_word, is_refused}
 use Rattle.written.specs.Wires.{first_level_no, via_level_no}
-use Rattle.wire_words.specs.Readable.{IsReadableRun, IsReadableVia, IsReadBy, is_path_word}
+use Rattle.wire_words.specs.Readable.{IsReadableRun, IsReadableVia, IsOwn, IsReadBy, is_path_word}
 use Rattle.wire_words.proofs.Levels.{level_layer}
 use Rattle.wire_words.proofs.Meanings.{name_no_sign}
-use Rattle.wire_words.proofs.Naming.{All-at, mapped_at, mapped_from, in_front, last_named, last_before}
+use Rattle.rt_base.proofs.Lists.{All-at}
+use Rattle.wire_words.proofs.Naming.{mapped_at, mapped_from, in_front, last_named, last_before}
 use Rattle.wire_words.proofs.Joining.{joined, joined_is, other_is}
 use Rattle.wire_words.proofs.Usable.{lowest_level, level_routing, all_on_one, are_routing}
 
@@ -82,40 +83,41 @@ plain_name name word none =
     by_tests : (a b c d : Bool) → a ≡ false → b ≡ false → c ≡ false → d ≡ true → (let kind : StepWord = cond a Opening (cond b Rectangle (cond c RefusedStep (cond d ViaName Other))) in kind) ≡ ViaName
     by_tests a b c d ea eb ec ed = rw (ea, eb, ec, ed) refl
 
-via_named_so : (reader tech : Tech) (own further : List Via) (k : ℕ) (via : Via) → IsReadBy reader tech own further → slice_get tech.vias k ≡ Some via → All (λ (v : Via). v.name ≢ via.name) further → via_named reader.vias via.name ≡ Some k
-via_named_so reader tech own further k via h at none =
-    let names : map via_name reader.vias ≡ map via_name tech.vias ++ map via_name further = ap (map via_name) h.vias ∙ map-append via_name own further ∙ ap (λ (ns : List (List ℕ)). ns ++ map via_name further) h.own_names in
+via_named_so : (reader tech : Tech) (own further : List Via) (k : ℕ) (via : Via) → IsReadBy reader tech own further → IsOwn own k via → All (λ (v : Via). v.name ≢ via.name) further → via_named reader.vias via.name ≡ Some k
+via_named_so reader tech own further k via h one none =
+    let names : map via_name reader.vias ≡ map via_name own ++ map via_name further = ap (map via_name) h.vias ∙ map-append via_name own further in
+    let here : slice_get (map via_name own) k ≡ Some via.name = mapped_at via_name own k one.said one.at ∙ ap (λ (n : List ℕ). Some n) one.same_name in
     ap (last_from via.name 0) names
-    ∙ last_before via.name 0 (map via_name tech.vias) (map via_name further) (All-map (λ n. n ≢ via.name) via_name further none)
-    ∙ last_named via.name 0 k k (map via_name tech.vias) (omega arith) h.vias_apart (mapped_at via_name tech.vias k via at)
+    ∙ last_before via.name 0 (map via_name own) (map via_name further) (All-map (λ n. n ≢ via.name) via_name further none)
+    ∙ last_named via.name 0 k k (map via_name own) (omega arith) h.own_apart here
 
 -- ---- a via
 
-rects_again : (reader tech : Tech) (own further : List Via) (k : ℕ) (via : Via) → IsReadBy reader tech own further → slice_get tech.vias k ≡ Some via → rects_of_via reader k ≡ via.rects
-rects_again reader tech own further k via h at =
-    let all : map rects_of reader.vias ≡ map rects_of tech.vias ++ map rects_of further = ap (map rects_of) h.vias ∙ map-append rects_of own further ∙ ap (λ (rs : List (List Metal)). rs ++ map rects_of further) h.own_rects in
-    let there : slice_get (map rects_of reader.vias) k ≡ Some via.rects = ap (λ (rs : List (List Metal)). slice_get rs k) all ∙ in_front (map rects_of tech.vias) (map rects_of further) k via.rects (mapped_at rects_of tech.vias k via at) in
-    mapped_from rects_of reader.vias k via.rects [] there
+rects_again : (reader tech : Tech) (own further : List Via) (k : ℕ) (via : Via) → IsReadBy reader tech own further → IsOwn own k via → rects_of_via reader k ≡ via.rects
+rects_again reader tech own further k via h one =
+    let all : map rects_of reader.vias ≡ map rects_of own ++ map rects_of further = ap (map rects_of) h.vias ∙ map-append rects_of own further in
+    let there : slice_get (map rects_of reader.vias) k ≡ Some one.said.rects = ap (λ (rs : List (List Metal)). slice_get rs k) all ∙ in_front (map rects_of own) (map rects_of further) k one.said.rects (mapped_at rects_of own k one.said one.at) in
+    mapped_from rects_of reader.vias k one.said.rects [] there ∙ one.same_rects
 
-by_via : (reader tech : Tech) (own further : List Via) (k : ℕ) (via : Via) (p : Point) → IsReadBy reader tech own further → slice_get tech.vias k ≡ Some via → IsUsable tech via.rects → All (λ (v : Via). v.name ≢ via_name_of tech k) further → IsPointWithin (2 ^ 30) p → IsReadableVia reader tech k p
-by_via reader tech own further k via p h at usable none near =
+by_via : (reader tech : Tech) (own further : List Via) (k : ℕ) (via : Via) (p : Point) → IsReadBy reader tech own further → slice_get tech.vias k ≡ Some via → IsOwn own k via → IsUsable tech via.rects → All (λ (v : Via). v.name ≢ via_name_of tech k) further → IsPointWithin (2 ^ 30) p → IsReadableVia reader tech k p
+by_via reader tech own further k via p h at one usable none near =
     let name : via_name_of tech k ≡ via.name = rw at refl in
     let rects : via_rects tech k ≡ via.rects = rw at refl in
-    let level = usable.level in
+    let level = usable.0 in
     let lowest = lowest_level tech via.rects usable in
     let number : via_level_no tech k ≡ layer_no tech level = ap (first_level_no (levels tech)) rects ∙ lowest.0 in
     let level_name : via_level_name tech k ≡ layer_name_of tech level = ap (first_level_name (levels tech)) rects ∙ lowest.1 in
-    let l = readable_level reader tech own further level h (omega (arith, usable.upper_level)) in
-    let plain = plain_name via.name (All-at (λ (v : Via). is_name_word v.name ≡ true) tech.vias k via h.via_names at) (All-at (λ (v : Via). is_path_word v.name ≡ false) tech.vias k via h.no_path_words at) in
-    let two : joined_by reader (rects_of_via reader k) ≡ Some (joined (layer_no tech level) (layer_no tech (level + 1))) = ap (joined_by reader) (rects_again reader tech own further k via h at)
-    ∙ joined_is reader (layer_no tech level) (layer_no tech (level + 1)) via.rects (are_routing reader tech via.rects usable h.layers) (all_on_one reader tech via.rects usable h.layers) usable.lower usable.upper in
+    let l = readable_level reader tech own further level h (omega (arith, usable.1.joins.upper_level)) in
+    let plain = plain_name via.name one.name one.no_path_word in
+    let two : joined_by reader (rects_of_via reader k) ≡ Some (joined (layer_no tech level) (layer_no tech (level + 1))) = ap (joined_by reader) (rects_again reader tech own further k via h one)
+    ∙ joined_is reader (layer_no tech level) (layer_no tech (level + 1)) via.rects (are_routing reader tech via.rects usable h.layers) (all_on_one reader tech via.rects usable h.layers) usable.1.joins.lower usable.1.joins.upper in
     record {
       name = ap is_name_word level_name ∙ l.name;
       layer = ap (layer_named reader.layers) level_name ∙ l.layer ∙ ap (λ (i : ℕ). Some i) (sym number);
       routing = ap (is_routing reader) number ∙ l.routing;
       step = ap step_word name ∙ plain.step;
       not_new = ap (λ (n : List ℕ). bytes_eq n (codes "NEW")) name ∙ plain.not_new;
-      via = ap (via_named reader.vias) name ∙ via_named_so reader tech own further k via h at (subst (λ (n : List ℕ). All (λ (v : Via). v.name ≢ n) further) name none);
+      via = ap (via_named reader.vias) name ∙ via_named_so reader tech own further k via h one (subst (λ (n : List ℕ). All (λ (v : Via). v.name ≢ n) further) name none);
       beyond = (joined (layer_no tech level) (layer_no tech (level + 1)), two, (record { 0 = layer_no tech (level + 1) }, ap (λ (i : ℕ). other_of (joined (layer_no tech level) (layer_no tech (level + 1))) (record { 0 = i })) number ∙ other_is (layer_no tech level) (layer_no tech (level + 1))));
       point = near;
     }
@@ -124,4 +126,4 @@ pub readable_via : (reader tech : Tech) (own further : List Via) (k low : ℕ) (
 readable_via reader tech own further k low p ok h joins none near =
     let via = joins.via in
     let usable : IsUsable tech via.rects = (All-at (IsViaOf tech) tech.vias k via ok.vias joins.is_via).usable joins.usable in
-    by_via reader tech own further k via p h joins.is_via usable none near
+    by_via reader tech own further k via p h joins.is_via (h.usable k via joins.is_via joins.usable) usable none near

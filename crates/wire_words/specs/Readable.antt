@@ -1,5 +1,5 @@
 -- Strokes whose words mean, in the technology that wiring is read by, what they were written of in the design's technology.
-use Rattle.std.specs.Prelude.{◌≡◌, ◌≢◌, ◌⊎◌, ℕ, ◌^◌, List, ◌++◌, map, Some, Bool, true, false, ◌||◌, bytes_eq, codes, All, AllPairs}
+use Rattle.std.specs.Prelude.{◌≡◌, ◌≢◌, ◌⊎◌, ℕ, ◌^◌, List, ◌++◌, map, Some, Bool, true, false, ◌||◌, bytes_eq, codes, IsTrue, slice_get, All, AllPairs}
 use Rattle.rt_base.specs.Ranges.{IsPointWithin}
 use Rattle.rt_base.specs.declared.geometry.Point.{Point}
 use Rattle.rt_base.specs.declared.tech.Layer.{Layer}
@@ -46,14 +46,20 @@ IsReadable reader tech (ViaAt k p) = IsReadableVia reader tech k p
 abbrev pub is_path_word : List ℕ → Bool
 is_path_word name = bytes_eq name (codes "NEW") || bytes_eq name (codes "RECT") || bytes_eq name (codes "MASK") || bytes_eq name (codes "STYLE") || bytes_eq name (codes "TAPERRULE") || bytes_eq name (codes "VIRTUAL")
 
--- the reader's technology has the layers of the design's, and its vias before further ones
+-- via k of the design's technology is the one of these with that number, under a name that wiring can have
+pub record IsOwn (own : List Via) (k : ℕ) (via : Via) : Type 0 where
+  pub said : Via
+  pub at : slice_get own k ≡ Some said
+  pub same_name : said.name ≡ via.name
+  pub same_rects : said.rects ≡ via.rects
+  pub name : is_name_word via.name ≡ true
+  pub no_path_word : is_path_word via.name ≡ false
+
+-- the reader's technology has the layers of the design's, and the design's usable vias before further ones
 pub record IsReadBy (reader tech : Tech) (own further : List Via) : Type 0 where
   pub layers : reader.layers ≡ tech.layers
   pub layer_names : All (λ (l : Layer). is_name_word l.name ≡ true) tech.layers
   pub layers_apart : AllPairs (λ a b. a ≢ b) (map (λ (l : Layer). l.name) tech.layers)
   pub vias : reader.vias ≡ own ++ further
-  pub own_names : map (λ (v : Via). v.name) own ≡ map (λ (v : Via). v.name) tech.vias
-  pub own_rects : map (λ (v : Via). v.rects) own ≡ map (λ (v : Via). v.rects) tech.vias
-  pub via_names : All (λ (v : Via). is_name_word v.name ≡ true) tech.vias
-  pub no_path_words : All (λ (v : Via). is_path_word v.name ≡ false) tech.vias
-  pub vias_apart : AllPairs (λ a b. a ≢ b) (map (λ (v : Via). v.name) tech.vias)
+  pub usable : (k : ℕ) (via : Via) → slice_get tech.vias k ≡ Some via → IsTrue via.usable → IsOwn own k via
+  pub own_apart : AllPairs (λ a b. a ≢ b) (map (λ (v : Via). v.name) own)

@@ -1,7 +1,5 @@
 -- The words of a text, cut before some of them, and the words of another text that has further words there.
-use Rattle.std.specs.Prelude.{◌≡◌, ℕ, ◌==◌, false, List, [], ◌∷◌, ◌++◌, map}
-use Rattle.std.specs.List.{list_any}
-use Rattle.rt_base.specs.Parts.{is_blank, is_bad}
+use Rattle.std.specs.Prelude.{ℕ, List, [], ◌∷◌, ◌++◌, map}
 use Rattle.rt_forms.specs.Lexeme.{Place}
 
 -- the words before a mark, and the mark
@@ -23,8 +21,3 @@ abbrev pub with_words : List Cut → List Place → List (List (List ℕ)) → L
 with_words [] last added = bytes_of last
 with_words (c ∷ cuts) last [] = bytes_of (cut_words (c ∷ cuts) last)
 with_words (c ∷ cuts) last (words ∷ added) = bytes_of c.before ++ words ++ c.mark.word ∷ with_words cuts last added
-
--- bytes that stand in a text as one token that isn't quoted
-abbrev pub IsPlainWord : List ℕ → Type 0
-IsPlainWord [] = ⊥
-IsPlainWord (b ∷ bs) = ((b == 35) ≡ false) × ((b == 34) ≡ false) × (list_any is_blank (b ∷ bs) ≡ false) × (list_any is_bad (b ∷ bs) ≡ false)

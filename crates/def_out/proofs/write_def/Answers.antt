@@ -12,8 +12,8 @@ pub net_wiring-requires-clause-walks : goal.net_wiring-requires-clause-walks
 net_wiring-requires-clause-walks c =
     let states_is : c.as_slice-states.result.now ≡ c.args.state.now.nets = c.as_slice-states.ensures in
     let nets_is : c.as_slice-nets.result.now ≡ c.args.design.now.nets = c.as_slice-nets.ensures in
-    let within : c.loop-i.i < length c.args.state.now.nets = rw (c.requires.routed.state.nets, ← nets_is) c.loop-i-test.true in
-    walks_stand c.args.design.now c.args.state.now c.requires.routed c.loop-i.i c.index-states-i.result
+    let within : c.loop-i.i < length c.args.state.now.nets = rw (c.requires.state.nets, ← nets_is) c.loop-i-test.true in
+    walks_stand c.args.design.now c.args.state.now c.requires.state c.loop-i.i c.index-states-i.result
     (net_state-at c.args.state.now c.loop-i.i c.index-states-i.result within (rw states_is at c.index-states-i.is))
 
 pub loop-i-preserved : goal.loop-i-preserved
@@ -27,7 +27,7 @@ loop-i-preserved c =
     let state = c.index-states-i.result in
     let nets_is : nets ≡ d.nets = c.as_slice-nets.ensures in
     let states_is : c.as_slice-states.result.now ≡ s.nets = c.as_slice-states.ensures in
-    let within : i < length s.nets = rw (c.requires.routed.state.nets, ← nets_is) c.loop-i-test.true in
+    let within : i < length s.nets = rw (c.requires.state.nets, ← nets_is) c.loop-i-test.true in
     let closes : AreCloses text nets = rw nets_is c.requires.closes in
     let stands : net_state s i ≡ state = net_state-at s i state within (rw states_is at c.index-states-i.is) in
     let copied : List ℕ = slice_range text c.loop-i.from net.close in

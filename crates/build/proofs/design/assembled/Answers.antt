@@ -1,13 +1,12 @@
 use Rattle.std.proofs.Common.{◌∙◌, List, All, length, refl, sym, subst, to_z, of_z, w64}
-use Rattle.rt_base.specs.declared.tech.Shape.{Shape}
 use Rattle.rt_base.specs.declared.tech.Tech.{Tech}
 use Rattle.track_graph.specs.declared.design.Design.{Design}
 use Rattle.pin_access.specs.EntryOrder.{system_of}
 use Rattle.def_text.specs.declared.def.DefNet.{DefNet}
 use Rattle.def_text.specs.Defs.{IsDefNet}
 use Rattle.build.specs.Inputs.{input_by}
-use Rattle.build.specs.Metals.{IsOnLayer}
-use Rattle.build.proofs.Assembling.{Stands, AreBuilt, IsAssembled, ground_is, grid_is, built_through, nets_through, sizes_through, too_large, refused, assembled_gives, assembled_fits, assembled_entries}
+use Rattle.build.specs.Standing.{Stands}
+use Rattle.build.proofs.Assembling.{AreBuilt, IsAssembled, ground_is, grid_is, built_through, nets_through, sizes_through, too_large, refused, assembled_gives, assembled_fits}
 use Rattle.build.proofs.design.assembled.Goals as goal
 
 pub nets-requires : goal.nets-requires
@@ -17,22 +16,11 @@ nets-requires c =
     let known = c.args.known.now in
     let tech : Tech = record { layers = c.args.tech.layers; vias = c.args.tech.vias } in
     let tracks = c.in_ok-tracks.tracks in
-    let stands : Stands (input_by c.args.given.now) c.args.options c.args.known.now c.args.index.now tech = record {
-      is_input = c.requires.given;
-      via = c.requires.via;
-      least = c.requires.least_tile;
-      most = c.requires.most_tile;
-      known_is = c.requires.known;
-      index_is = c.requires.index;
-      tech_of = c.requires.tech;
-      layers = subst (λ (ss : List Shape). All (IsOnLayer (length c.args.given.now.lef.now.layers)) ss) c.requires.shapes c.requires.layers;
-      names = c.requires.names;
-      counts = c.requires.counts;
-    } in
+    let stands : Stands i options known c.args.index.now tech = c.requires.stands in
     let built : AreBuilt c.args.given.now.def.now tech c.in_ok-tracks.tracks = built_through i.def tech tracks c.as_slice-2.result.now c.as_slice.result.now c.as_slice-2.ensures c.as_slice.ensures c.in_ok-tracks.ensures.lines c.in_ok-tracks.ensures.steps in
     record {
       ground = ground_is i options known c.args.index.now tech tracks stands built;
-      said = subst (λ (ns : List DefNet). All IsDefNet ns) (sym c.as_slice-3.ensures) c.requires.given.is_def.nets;
+      said = subst (λ (ns : List DefNet). All IsDefNet ns) (sym c.as_slice-3.ensures) c.requires.stands.asked.is_input.is_def.nets;
     }
 
 pub returns-in_err-check_sizes-clause-refusal : goal.returns-in_err-check_sizes-clause-refusal
@@ -42,23 +30,12 @@ returns-in_err-check_sizes-clause-refusal c =
     let known = c.args.known.now in
     let tech : Tech = record { layers = c.args.tech.layers; vias = c.args.tech.vias } in
     let tracks = c.in_ok-tracks.tracks in
-    let stands : Stands (input_by c.args.given.now) c.args.options c.args.known.now c.args.index.now tech = record {
-      is_input = c.requires.given;
-      via = c.requires.via;
-      least = c.requires.least_tile;
-      most = c.requires.most_tile;
-      known_is = c.requires.known;
-      index_is = c.requires.index;
-      tech_of = c.requires.tech;
-      layers = subst (λ (ss : List Shape). All (IsOnLayer (length c.args.given.now.lef.now.layers)) ss) c.requires.shapes c.requires.layers;
-      names = c.requires.names;
-      counts = c.requires.counts;
-    } in
+    let stands : Stands i options known c.args.index.now tech = c.requires.stands in
     let built : AreBuilt c.args.given.now.def.now tech c.in_ok-tracks.tracks = built_through i.def tech tracks c.as_slice-2.result.now c.as_slice.result.now c.as_slice-2.ensures c.as_slice.ensures c.in_ok-tracks.ensures.lines c.in_ok-tracks.ensures.steps in
     let nets = c.in_ok-nets.nets in
     let g = system_of tech tracks i.def.die in
     let nets_are = nets_through i g c.as_slice-3.result.now nets c.as_slice-3.ensures c.in_ok-nets.ensures in
-    let sizes = sizes_through i options _ c.deref.result.now c.as_slice-4.result.now nets (grid_is i.def options c.requires.least_tile c.requires.most_tile) (c.deref.ensures.value ∙ c.requires.shapes) c.as_slice-4.ensures in
+    let sizes = sizes_through i options _ c.deref.result.now c.as_slice-4.result.now nets (grid_is i.def options c.requires.stands.asked.chosen.least c.requires.stands.asked.chosen.most) (c.deref.ensures.value ∙ c.requires.shapes) c.as_slice-4.ensures in
     refused i options c.from_residual-in_err-check_sizes.result c.in_err-check_sizes.field-0.0 c.from_residual-in_err-check_sizes.ensures.1
     (λ other. too_large i options known c.args.index.now tech tracks nets c.in_err-check_sizes.field-0.0 stands built nets_are (sym sizes ∙ c.in_err-check_sizes.ensures other))
 
@@ -69,29 +46,18 @@ returns-clause-design c =
     let known = c.args.known.now in
     let tech : Tech = record { layers = c.args.tech.layers; vias = c.args.tech.vias } in
     let tracks = c.in_ok-tracks.tracks in
-    let stands : Stands (input_by c.args.given.now) c.args.options c.args.known.now c.args.index.now tech = record {
-      is_input = c.requires.given;
-      via = c.requires.via;
-      least = c.requires.least_tile;
-      most = c.requires.most_tile;
-      known_is = c.requires.known;
-      index_is = c.requires.index;
-      tech_of = c.requires.tech;
-      layers = subst (λ (ss : List Shape). All (IsOnLayer (length c.args.given.now.lef.now.layers)) ss) c.requires.shapes c.requires.layers;
-      names = c.requires.names;
-      counts = c.requires.counts;
-    } in
+    let stands : Stands i options known c.args.index.now tech = c.requires.stands in
     let built : AreBuilt c.args.given.now.def.now tech c.in_ok-tracks.tracks = built_through i.def tech tracks c.as_slice-2.result.now c.as_slice.result.now c.as_slice-2.ensures c.as_slice.ensures c.in_ok-tracks.ensures.lines c.in_ok-tracks.ensures.steps in
     let nets = c.in_ok-nets.nets in
     let g = system_of tech tracks i.def.die in
     let nets_are = nets_through i g c.as_slice-3.result.now nets c.as_slice-3.ensures c.in_ok-nets.ensures in
-    let sizes = sizes_through i options _ c.deref.result.now c.as_slice-4.result.now nets (grid_is i.def options c.requires.least_tile c.requires.most_tile) (c.deref.ensures.value ∙ c.requires.shapes) c.as_slice-4.ensures in
+    let sizes = sizes_through i options _ c.deref.result.now c.as_slice-4.result.now nets (grid_is i.def options c.requires.stands.asked.chosen.least c.requires.stands.asked.chosen.most) (c.deref.ensures.value ∙ c.requires.shapes) c.as_slice-4.ensures in
     let d : Design = record { tech = tech; tracks = tracks; grid = record { die = c.args.given.now.def.now.die; tile = to_z w64 (of_z w64 c.args.options.tile) }; nets = nets; fixed = c.from_vec.result; options = c.args.options; skipped = c.in_ok-skipped.skipped } in
     let assembled : IsAssembled (input_by c.args.given.now) c.args.options c.args.known.now c.args.index.now d = record {
       stands = stands;
       built = built;
       nets = nets_are;
-      grid = grid_is i.def options c.requires.least_tile c.requires.most_tile;
+      grid = grid_is i.def options c.requires.stands.asked.chosen.least c.requires.stands.asked.chosen.most;
       fixed = c.from_vec.ensures ∙ c.requires.shapes;
       chosen = refl;
       skipped = c.in_ok-skipped.ensures;
@@ -106,69 +72,21 @@ returns-clause-fits c =
     let known = c.args.known.now in
     let tech : Tech = record { layers = c.args.tech.layers; vias = c.args.tech.vias } in
     let tracks = c.in_ok-tracks.tracks in
-    let stands : Stands (input_by c.args.given.now) c.args.options c.args.known.now c.args.index.now tech = record {
-      is_input = c.requires.given;
-      via = c.requires.via;
-      least = c.requires.least_tile;
-      most = c.requires.most_tile;
-      known_is = c.requires.known;
-      index_is = c.requires.index;
-      tech_of = c.requires.tech;
-      layers = subst (λ (ss : List Shape). All (IsOnLayer (length c.args.given.now.lef.now.layers)) ss) c.requires.shapes c.requires.layers;
-      names = c.requires.names;
-      counts = c.requires.counts;
-    } in
+    let stands : Stands i options known c.args.index.now tech = c.requires.stands in
     let built : AreBuilt c.args.given.now.def.now tech c.in_ok-tracks.tracks = built_through i.def tech tracks c.as_slice-2.result.now c.as_slice.result.now c.as_slice-2.ensures c.as_slice.ensures c.in_ok-tracks.ensures.lines c.in_ok-tracks.ensures.steps in
     let nets = c.in_ok-nets.nets in
     let g = system_of tech tracks i.def.die in
     let nets_are = nets_through i g c.as_slice-3.result.now nets c.as_slice-3.ensures c.in_ok-nets.ensures in
-    let sizes = sizes_through i options _ c.deref.result.now c.as_slice-4.result.now nets (grid_is i.def options c.requires.least_tile c.requires.most_tile) (c.deref.ensures.value ∙ c.requires.shapes) c.as_slice-4.ensures in
+    let sizes = sizes_through i options _ c.deref.result.now c.as_slice-4.result.now nets (grid_is i.def options c.requires.stands.asked.chosen.least c.requires.stands.asked.chosen.most) (c.deref.ensures.value ∙ c.requires.shapes) c.as_slice-4.ensures in
     let d : Design = record { tech = tech; tracks = tracks; grid = record { die = c.args.given.now.def.now.die; tile = to_z w64 (of_z w64 c.args.options.tile) }; nets = nets; fixed = c.from_vec.result; options = c.args.options; skipped = c.in_ok-skipped.skipped } in
     let assembled : IsAssembled (input_by c.args.given.now) c.args.options c.args.known.now c.args.index.now d = record {
       stands = stands;
       built = built;
       nets = nets_are;
-      grid = grid_is i.def options c.requires.least_tile c.requires.most_tile;
+      grid = grid_is i.def options c.requires.stands.asked.chosen.least c.requires.stands.asked.chosen.most;
       fixed = c.from_vec.ensures ∙ c.requires.shapes;
       chosen = refl;
       skipped = c.in_ok-skipped.ensures;
       sizes = sym sizes ∙ c.in_ok-check_sizes.ensures;
     } in
     assembled_fits i options known c.args.index.now d assembled
-
-pub returns-clause-entries : goal.returns-clause-entries
-returns-clause-entries c =
-    let i = input_by c.args.given.now in
-    let options = c.args.options in
-    let known = c.args.known.now in
-    let tech : Tech = record { layers = c.args.tech.layers; vias = c.args.tech.vias } in
-    let tracks = c.in_ok-tracks.tracks in
-    let stands : Stands (input_by c.args.given.now) c.args.options c.args.known.now c.args.index.now tech = record {
-      is_input = c.requires.given;
-      via = c.requires.via;
-      least = c.requires.least_tile;
-      most = c.requires.most_tile;
-      known_is = c.requires.known;
-      index_is = c.requires.index;
-      tech_of = c.requires.tech;
-      layers = subst (λ (ss : List Shape). All (IsOnLayer (length c.args.given.now.lef.now.layers)) ss) c.requires.shapes c.requires.layers;
-      names = c.requires.names;
-      counts = c.requires.counts;
-    } in
-    let built : AreBuilt c.args.given.now.def.now tech c.in_ok-tracks.tracks = built_through i.def tech tracks c.as_slice-2.result.now c.as_slice.result.now c.as_slice-2.ensures c.as_slice.ensures c.in_ok-tracks.ensures.lines c.in_ok-tracks.ensures.steps in
-    let nets = c.in_ok-nets.nets in
-    let g = system_of tech tracks i.def.die in
-    let nets_are = nets_through i g c.as_slice-3.result.now nets c.as_slice-3.ensures c.in_ok-nets.ensures in
-    let sizes = sizes_through i options _ c.deref.result.now c.as_slice-4.result.now nets (grid_is i.def options c.requires.least_tile c.requires.most_tile) (c.deref.ensures.value ∙ c.requires.shapes) c.as_slice-4.ensures in
-    let d : Design = record { tech = tech; tracks = tracks; grid = record { die = c.args.given.now.def.now.die; tile = to_z w64 (of_z w64 c.args.options.tile) }; nets = nets; fixed = c.from_vec.result; options = c.args.options; skipped = c.in_ok-skipped.skipped } in
-    let assembled : IsAssembled (input_by c.args.given.now) c.args.options c.args.known.now c.args.index.now d = record {
-      stands = stands;
-      built = built;
-      nets = nets_are;
-      grid = grid_is i.def options c.requires.least_tile c.requires.most_tile;
-      fixed = c.from_vec.ensures ∙ c.requires.shapes;
-      chosen = refl;
-      skipped = c.in_ok-skipped.ensures;
-      sizes = sym sizes ∙ c.in_ok-check_sizes.ensures;
-    } in
-    assembled_entries i options known c.args.index.now d assembled

@@ -1,6 +1,6 @@
 use Rattle.std.proofs.Common.{◌≡◌, ◌∙◌, ◌↔◌, ◌^◌, ◌<◌, ℕ, List, length, All, AllPairs, Contains, sym, ap, subst, arith}
 use Rattle.rt_base.specs.declared.walk.Entry.{Entry}
-use Rattle.track_graph.specs.Designs.{IsMetal, FitsPin}
+use Rattle.track_graph.specs.Designs.{IsMetal}
 use Rattle.track_graph.specs.Entries.{IsEntry}
 use Rattle.track_graph.specs.Metal.{Metal}
 use Rattle.pin_access.specs.EntryOrder.{IsEntryBefore}
@@ -53,6 +53,7 @@ returns-clause-fits c =
     record {
       rect_count = are_few on c.args.connection.now c.from_vec.result c.requires is;
       rects = are_metal on c.args.connection.now c.from_vec.result c.requires is;
-      entries = subst (λ (es : List Entry). All (FitsPin g c.args.number c.from_vec.result) es) (sym c.from_vec-2.ensures)
-          (subst (λ (ms : List Metal). All (FitsPin g c.args.number ms) c.in_ok-found.found.items) rects c.in_ok-found.ensures.fits);
+      entries = λ e.
+          subst (λ (es : List Entry). Contains es e ↔ IsEntry g c.args.number c.from_vec.result e) (sym c.from_vec-2.ensures)
+          (subst (λ (ms : List Metal). Contains c.in_ok-found.found.items e ↔ IsEntry g c.args.number ms e) rects (c.in_ok-found.ensures.exact e));
     }

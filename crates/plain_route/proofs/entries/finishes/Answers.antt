@@ -12,7 +12,7 @@ use Rattle.plain_route.proofs.entries.finishes.Goals as goal
 pub returns : goal.returns
 returns c =
     let joined = c.as_slice.ensures ∙ ap (λ (s : NetState). s.joined) c.net_state-standing.ensures in
-    IfOk-weaker c.pin_entries.result (λ (es : List Entry). es ≡ pin_entries false c.as_slice.result.now c.pins_of.result.now) (AreEntries c.args.design.now c.args.net (IsFinish c.args.design.now c.args.state.now c.args.net))
+    IfOk-weaker c.pin_entries.result (λ (es : List Entry). es ≡ pin_entries false c.as_slice.result.now c.pins_of.result.now) (AreEntries c.args.design.now c.args.net (IsFinish c.args.design.now c.args.net (net_state c.args.state.now c.args.net)))
     (λ es h. finishes_are c.args.design.now c.args.state.now c.args.net es
     (h ∙ ap (λ (js : List Bool). pin_entries false js c.pins_of.result.now) joined ∙ ap (λ (ps : List Pin). pin_entries false (net_state c.args.state.now c.args.net).joined ps) c.pins_of.ensures))
     c.pin_entries.ensures

@@ -2,9 +2,8 @@ use Rattle.std.proofs.Common.{◌≡◌, ◌<◌, ◌≤◌, false, List, [], fo
 use Rattle.std.proofs.lemmas.Option.{slice_get_read}
 use Rattle.rt_base.specs.declared.walk.Walk.{Walk}
 use Rattle.track_graph.specs.declared.history.NetState.{NetState}
-use Rattle.track_graph.specs.NetWalks.{IsNetWalk}
-use Rattle.track_graph.specs.Rules.{every_net}
-use Rattle.track_graph.specs.States.{standing_from, net_state}
+use Rattle.track_graph.specs.NetWalks.{IsWalkOf}
+use Rattle.track_graph.specs.States.{standing_from, net_state, every_net}
 use Rattle.track_graph.specs.Walks.{walk_shapes_of}
 use Rattle.plain_route.specs.Obstacles.{added}
 use Rattle.plain_route.proofs.ObstacleLemmas.{fold_nets, drop_past}
@@ -16,7 +15,7 @@ add_walks-requires-clause-walks c =
     let read : slice_get c.as_slice-standing-items.result.now i ≡ Some c.standing-item.result = slice_get_read c.as_slice-standing-items.result.now (length c.as_slice-standing-items.result.now) i c.standing-item.result refl c.loop-owner-test.true c.standing-item.is in
     let at : slice_get c.args.state.now.nets i ≡ Some c.standing-item.result = subst (λ (ns : List NetState). slice_get ns i ≡ Some c.standing-item.result) c.as_slice-standing-items.ensures read in
     let same : net_state c.args.state.now i ≡ c.standing-item.result = ap (λ (o : Option NetState). unwrap_or o (record { walks = []; joined = []; rips = 0; stuck = false })) at in
-    subst (All (IsNetWalk c.args.design.now i)) (ap (λ (s : NetState). s.walks) same ∙ sym c.as_slice.ensures) (c.requires.routed.walks i)
+    subst (All (IsWalkOf c.args.design.now i)) (ap (λ (s : NetState). s.walks) same ∙ sym c.as_slice.ensures) (c.requires.routed.walks i)
 
 pub loop-owner-preserved : goal.loop-owner-preserved
 loop-owner-preserved c =

@@ -1,6 +1,5 @@
 use Rattle.std.proofs.Common.{◌≡◌, drop, fold}
-use Rattle.track_graph.specs.Rules.{every_net}
-use Rattle.track_graph.specs.States.{standing_from}
+use Rattle.track_graph.specs.States.{standing_from, every_net}
 use Rattle.plain_route.specs.Obstacles.{added}
 use Rattle.plain_route.proofs.obstacles.add_standing.Given as goal
 

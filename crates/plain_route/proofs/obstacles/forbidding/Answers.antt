@@ -1,8 +1,7 @@
 use Rattle.std.proofs.Common.{◌<◌, List, [], length, fold, sym, subst, ap, ◌∙◌, All}
 use Rattle.std.proofs.lemmas.List.Elements.{All-nil}
 use Rattle.rt_base.specs.declared.tech.Shape.{Shape}
-use Rattle.track_graph.specs.Rules.{every_net}
-use Rattle.track_graph.specs.States.{standing_from}
+use Rattle.track_graph.specs.States.{standing_from, every_net}
 use Rattle.plain_route.specs.Obstacles.{added}
 use Rattle.plain_route.proofs.ObstacleLemmas.{obstacles_are, added_layers}
 use Rattle.plain_route.proofs.obstacles.forbidding.Goals as goal

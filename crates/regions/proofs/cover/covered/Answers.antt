@@ -12,7 +12,7 @@ use Rattle.regions.proofs.cover.covered.Goals as goal
 
 pub maximal_spans-requires-clause-small : goal.maximal_spans-requires-clause-small
 maximal_spans-requires-clause-small c =
-    parts_small (record { in_x = c.runs_in_x.result; at = to_z w64 (of_z w64 c.args.line) }) c.args.level c.guide_of.result.now c.in_ok-parts.parts.items
+    parts_small (record { in_x = c.is_level_horizontal.result; at = to_z w64 (of_z w64 c.args.line) }) c.args.level c.guide_of.result.now c.in_ok-parts.parts.items
     (subst (λ (boxes : List (ℕ × Sides)). All (λ (box : ℕ × Sides). AreSidesWithin (2 ^ 32) box.1) boxes) (sym c.guide_of.ensures) (guide_sides c.args.design.now c.args.net c.requires.design)) c.in_ok-parts.ensures.full c.in_ok-parts.ensures.exact
 
 pub returns : goal.returns
@@ -22,5 +22,5 @@ returns c =
     IfOk-weaker c.maximal_spans.result (λ (v : Vec Span Global). AreSpansOf (InSpans parts) v.items) (λ (v : Vec Span Global). AreSpansOf (IsCovered d c.args.net c.args.level c.args.line) v.items)
     (λ v h.
     spans_same (InSpans parts) (IsCovered d c.args.net c.args.level c.args.line) v.items
-    (covered_same d c.args.net c.args.level c.args.line c.runs_in_x.result (to_z w64 (of_z w64 c.args.line)) c.guide_of.result.now parts c.guide_of.ensures c.runs_in_x.ensures (to_z-of_z w64 c.args.line c.ranges.line) c.in_ok-parts.ensures.exact) h)
+    (covered_same d c.args.net c.args.level c.args.line c.is_level_horizontal.result (to_z w64 (of_z w64 c.args.line)) c.guide_of.result.now parts c.guide_of.ensures c.is_level_horizontal.ensures (to_z-of_z w64 c.args.line c.ranges.line) c.in_ok-parts.ensures.exact) h)
     c.maximal_spans.ensures

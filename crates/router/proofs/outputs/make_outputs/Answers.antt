@@ -1,5 +1,7 @@
 use Rattle.std.proofs.Common.{refl, ap, ◌∙◌}
 use Rattle.def_out.specs.Wiring.{routed_def}
+use Rattle.report.specs.Lines.{report_of}
+use Rattle.track_graph.specs.declared.history.State.{State}
 use Rattle.router.specs.Runs.{routed_status}
 use Rattle.router.proofs.outputs.make_outputs.Goals as goal
 

@@ -3,18 +3,18 @@ use Rattle.track_graph.specs.declared.history.Block.{Block}
 use Rattle.track_graph.specs.declared.history.State.{State}
 use Rattle.track_graph.specs.Histories.{IsHistory, IsRight}
 use Rattle.track_graph.specs.States.{after, state_of}
-use Rattle.ripup.proofs.BlockLemmas.{right-block_of}
+use Rattle.track_graph.proofs.BlockLemmas.{right-block_of}
 use Rattle.ripup.proofs.HistoryLemmas.{IsHistory-push, state_of-push}
-use Rattle.ripup.proofs.ProgressLemmas.{under_way-routed}
+use Rattle.ripup.proofs.ProgressLemmas.{under_way-kept}
 use Rattle.ripup.proofs.progress.Progress.add.Goals as goal
 
 pub push-requires-clause-state : goal.push-requires-clause-state
-push-requires-clause-state c = (under_way-routed c.args.design.now c.args.self.now c.requires.design c.requires.under_way).state
+push-requires-clause-state c = under_way-kept c.args.design.now c.args.self.now c.requires.design c.requires.under_way
 
 pub push-requires-clause-block : goal.push-requires-clause-block
 push-requires-clause-block c =
     right-block_of c.args.design.now c.args.self.now.state c.args.block c.requires.design
-    (under_way-routed c.args.design.now c.args.self.now c.requires.design c.requires.under_way).state
+    (under_way-kept c.args.design.now c.args.self.now c.requires.design c.requires.under_way)
     c.requires.right
 
 pub returns-clause-under_way : goal.returns-clause-under_way
