@@ -25,6 +25,9 @@ use Rattle.build.specs.Inputs.{Input}
 use Rattle.build.specs.LookUps.{connected_rects}
 use Rattle.build.proofs.Steps.{numbered_more, taken_more}
 
+sum-cons : (n : ℕ) (ns : List ℕ) → sum (n ∷ ns) ≡ n + sum ns
+sum-cons n ns = sum_by-cons (λ (m : ℕ). m) n ns
+
 -- ---- the entries that are listed
 
 point_apart : (p q : Point) → IsPointBefore p q → IsPointBefore q p → ⊥
@@ -64,7 +67,7 @@ pins_counted lef def g (s ∷ ss) [] h = absurd h
 pins_counted lef def g (s ∷ ss) (p ∷ ps) h =
     let rest = pins_counted lef def g ss ps h.1 in
     let one = subst (λ (rs : List Metal). Counts (IsEntry g s.0 rs) (length p.entries)) h.0.rects (entries_counted g s.0 p.rects p.entries h.0.entries) in
-    (length p.entries ∷ rest.0, (one, rest.1), ap (λ (n : ℕ). length p.entries + n) rest.2 ∙ sym (sum_by-cons (λ (q : Pin). length q.entries) p ps))
+    (length p.entries ∷ rest.0, (one, rest.1), sum-cons (length p.entries) rest.0 ∙ ap (λ (n : ℕ). length p.entries + n) rest.2 ∙ sym (sum_by-cons (λ (q : Pin). length q.entries) p ps))
 
 abbrev pin_sum : Net → ℕ
 pin_sum net = sum_by (λ (pin : Pin). length pin.entries) net.pins
@@ -77,7 +80,7 @@ all_counted i g (s ∷ ss) (n ∷ ns) h =
     let rest = all_counted i g ss ns h.1 in
     let pins = pins_counted i.lef i.def g (enumerate_from 0 s.pins) n.pins h.0.pins in
     let one : NetHas i g s (pin_sum n) = record { of_pins = pins.0; each = pins.1; together = pins.2 } in
-    (pin_sum n ∷ rest.0, (one, rest.1), ap (λ (m : ℕ). pin_sum n + m) rest.2 ∙ sym (sum_by-cons pin_sum n ns))
+    (pin_sum n ∷ rest.0, (one, rest.1), sum-cons (pin_sum n) rest.0 ∙ ap (λ (m : ℕ). pin_sum n + m) rest.2 ∙ sym (sum_by-cons pin_sum n ns))
 
 -- what is listed is so many
 pub nets_counted : (i : Input) (g : TrackSystem) (said : List DefNet) (nets : List Net) → AllZip (IsNetOf i g) said nets → NetsHave i g said (entry_count nets)
@@ -93,7 +96,7 @@ pins_one lef def g (s ∷ ss) [] ns h k = absurd h
 pins_one lef def g (s ∷ ss) (m ∷ ms) [] h k = absurd k
 pins_one lef def g (s ∷ ss) (m ∷ ms) (n ∷ ns) h k =
     let one : m ≡ n = counts_unique (IsEntry g s.0 (connected_rects lef def s.1)) m n h.0 k.0 in
-    ap (λ (a : ℕ). a + sum ms) one ∙ ap (λ (a : ℕ). n + a) (pins_one lef def g ss ms ns h.1 k.1)
+    sum-cons m ms ∙ ap (λ (a : ℕ). a + sum ms) one ∙ ap (λ (a : ℕ). n + a) (pins_one lef def g ss ms ns h.1 k.1) ∙ sym (sum-cons n ns)
 
 net_one : (i : Input) (g : TrackSystem) (said : DefNet) (m n : ℕ) → NetHas i g said m → NetHas i g said n → m ≡ n
 net_one i g said m n h k = sym h.together ∙ pins_one i.lef i.def g (enumerate_from 0 said.pins) h.of_pins k.of_pins h.each k.each ∙ k.together
@@ -104,7 +107,7 @@ nets_one i g [] [] (n ∷ ns) h k = absurd k
 nets_one i g [] (m ∷ ms) ns h k = absurd h
 nets_one i g (s ∷ ss) [] ns h k = absurd h
 nets_one i g (s ∷ ss) (m ∷ ms) [] h k = absurd k
-nets_one i g (s ∷ ss) (m ∷ ms) (n ∷ ns) h k = ap (λ (a : ℕ). a + sum ms) (net_one i g s m n h.0 k.0) ∙ ap (λ (a : ℕ). n + a) (nets_one i g ss ms ns h.1 k.1)
+nets_one i g (s ∷ ss) (m ∷ ms) (n ∷ ns) h k = sum-cons m ms ∙ ap (λ (a : ℕ). a + sum ms) (net_one i g s m n h.0 k.0) ∙ ap (λ (a : ℕ). n + a) (nets_one i g ss ms ns h.1 k.1) ∙ sym (sum-cons n ns)
 
 pub nets_unique : (i : Input) (g : TrackSystem) (said : List DefNet) (m n : ℕ) → NetsHave i g said m → NetsHave i g said n → m ≡ n
 nets_unique i g said m n h k = sym h.together ∙ nets_one i g said h.of_nets k.of_nets h.each k.each ∙ k.together
@@ -112,8 +115,11 @@ nets_unique i g said m n h k = sym h.together ∙ nets_one i g said h.of_nets k.
 -- ---- one more
 
 sum-push : (ns : List ℕ) (n : ℕ) → sum (ns ++ n ∷ []) ≡ sum ns + n
-sum-push [] n = omega arith
-sum-push (m ∷ ms) n = ap (λ (a : ℕ). m + a) (sum-push ms n) ∙ omega arith
+sum-push [] n = sum-cons n [] ∙ omega arith
+sum-push (m ∷ ms) n = sum-cons m (ms ++ n ∷ []) ∙ ap (λ (a : ℕ). m + a) (sum-push ms n) ∙ add_up m (sum ms) n ∙ ap (λ (a : ℕ). a + n) (sym (sum-cons m ms))
+  where
+    add_up : (a b c : ℕ) → a + (b + c) ≡ (a + b) + c
+    add_up a b c = omega arith
 
 pub pins_none : (lef : Lef) (def : Def) (g : TrackSystem) → PinsHave lef def g [] 0
 pins_none lef def g = record { of_pins = []; each = tt; together = refl }
