@@ -1,6 +1,6 @@
 -- A text has no more layers, vias, macros and pins of a macro than it has words.
-use Rattle.std.proofs.Common.{◌≡◌, ◌∙◌, ◌≤◌, ◌<◌, ◌+◌, ◌^◌, sym, ap, subst, ℕ, Bool, true, false, if◌then◌else◌, List, [], ◌∷◌, ◌++◌, length, Ok, refl, arith, codes}
-use Rattle.std.specs.Prelude.{All, map}
+use Rattle.std.proofs.Common.{◌≡◌, ◌≤◌, ◌+◌, ◌^◌, sym, ap, subst, ℕ, Bool, true, false, List, [], ◌∷◌, ◌++◌, length, Ok, refl, arith, codes}
+use Rattle.std.specs.Prelude.{All}
 use Rattle.std.proofs.lemmas.List.{length_push, length-append, length-map}
 use Rattle.std.proofs.lemmas.List.Elements.{All-push, All-weaker, All-nil}
 use Rattle.rt_base.specs.Sides.{Sides}
@@ -10,7 +10,7 @@ use Rattle.rt_base.specs.declared.token.Token.{Token}
 use Rattle.rt_base.specs.Parts.{Part, Blank, Comment, Quoted, Plain, spelled, spelling, is_token, tokens_after}
 use Rattle.rt_base.specs.Scan.{IsCutInto}
 use Rattle.rt_forms.specs.Lexeme.{Lexeme, End, Place, places, last_line}
-use Rattle.rt_forms.specs.Form.{next, one, done, loop, text, Turn, More, Done, turn}
+use Rattle.rt_forms.specs.Form.{one, loop, text, Turn, More, Done, turn}
 use Rattle.rt_forms.proofs.Laws.{length_put}
 use Rattle.rt_forms.specs.Reading.{rest, the_word, up_to_word, up_to_pair}
 use Rattle.rt_forms.specs.Clauses.{IsText}
@@ -32,7 +32,7 @@ use Rattle.lef_text.specs.Shapes.{drawn}
 use Rattle.lef_text.specs.Macros as macros
 use Rattle.lef_text.specs.Macros.{Cell, cell_of, IsNearShape}
 use Rattle.lef_text.specs.Lef as lefs
-use Rattle.lef_text.proofs.Yields.{Yields, yields_then, yields_done, yields_refused, OfTurn}
+use Rattle.lef_text.proofs.Yields.{Yields, yields_then, yields_done, yields_refused}
 use Rattle.lef_text.proofs.Tallies.{Tallies, Rises, TurnAt, tallies_turn, tallies_bind, tallies_then, tallies_next, tallies_done, tallies_both, tallies_loop, tallies_text}
 use Rattle.lef_text.specs.Counts.{HasFew, HasRoom}
 use Rattle.lef_text.specs.Faults.{lef_faults}

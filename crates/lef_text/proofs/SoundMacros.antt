@@ -25,7 +25,7 @@ use Rattle.lef_text.specs.Numbers.{number, rectangle}
 use Rattle.lef_text.specs.Polygons.{polygon}
 use Rattle.lef_text.specs.Layers.{new_name}
 use Rattle.lef_text.specs.Vias as vias
-use Rattle.lef_text.specs.OnLayers.{with_shape, with_shapes}
+use Rattle.lef_text.specs.OnLayers.{with_shape}
 use Rattle.lef_text.specs.Shapes as shapes
 use Rattle.lef_text.specs.Shapes.{Shapes, shapes_of, Drawn, drawn}
 use Rattle.lef_text.specs.Macros as macros

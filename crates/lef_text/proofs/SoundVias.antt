@@ -44,7 +44,7 @@ use Rattle.lef_text.specs.declared.via_words.FormLine.{FormLine}
 use Rattle.lef_text.specs.declared.via_words.FormLine.TheVariants as forms
 use Rattle.lef_text.proofs.Arrays.{most, IsPair, IsEnclosure, IsArray, AreThree, AreFormLines, form_is, is_form, placed, rects_at_end_is}
 use Rattle.lef_text.specs.Lef as lefs
-use Rattle.lef_text.proofs.Yields.{Yields, yields_bind, yields_then, yields_done, yields_refused, yields_one, yields_choose, OfTurn, yields_loop, yields_text}
+use Rattle.lef_text.proofs.Yields.{Yields, yields_bind, yields_then, yields_done, yields_refused, yields_one, yields_choose, OfTurn, yields_loop}
 use Rattle.lef_text.proofs.Small.{passed, passed_so, ok_is, on_line}
 use Rattle.lef_text.proofs.Named.{IsNamed, words_named}
 use Rattle.lef_text.proofs.SoundCounts.{HasFewOf, few_of}

@@ -1,5 +1,5 @@
 -- What holds of each value that a form takes, by the number of its words.
-use Rattle.std.proofs.Common.{◌≡◌, ◌∙◌, ◌≤◌, ◌+◌, sym, ap, subst, ℕ, Bool, true, false, zero, suc, List, [], ◌∷◌, ◌++◌, length, arith}
+use Rattle.std.proofs.Common.{◌≡◌, ◌∙◌, ◌≤◌, ◌+◌, sym, ap, subst, ℕ, Bool, true, false, zero, suc, List, length, arith}
 use Rattle.std.proofs.lemmas.List.{length-append}
 use Rattle.rt_forms.specs.Lexeme.{Lexeme, Place}
 use Rattle.rt_forms.specs.Form.{Form, next, done, look, nothing, ◌>>=◌, choose, loop, unless, no_word, text, Turn, Turns, More, Done}
