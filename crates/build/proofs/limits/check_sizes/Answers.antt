@@ -8,4 +8,4 @@ product_fits a b la lb =
     omega (arith, most)
 
 pub overflow_mul-tiles : goal.overflow_mul-tiles
-overflow_mul-tiles c = ?
+overflow_mul-tiles c = product_fits _ _ (omega arith) (omega arith)
