@@ -1,5 +1,5 @@
 -- What is put together is the design of LEF and DEF, and what keeps it from being one is the first refusal.
-use Rattle.std.proofs.Common.{◌≡◌, ◌≢◌, ◌^◌, ◌<◌, ◌≤◌, ℤ, pos, negsuc, ◌≤ℤ◌, unsigned_abs, FitsSigned, to_z, of_z, w64, List, Some, None, Result, Ok, Err, IfOk, IfErr, IsErrAnd, MatchResult, length, map, All, refl, sym, ap, subst, ◌∙◌, arith}
+use Rattle.std.proofs.Common.{ℕ, ◌≡◌, ◌≢◌, ◌^◌, ◌<◌, ◌≤◌, ℤ, pos, negsuc, ◌≤ℤ◌, unsigned_abs, FitsSigned, to_z, of_z, w64, List, Some, None, Result, Ok, Err, IfOk, IfErr, IsErrAnd, MatchResult, length, map, All, refl, sym, ap, subst, ◌∙◌, arith}
 use Rattle.std.specs.List.{AllZip}
 use Rattle.std.proofs.lemmas.Result.{err_from_is_err_and}
 use Rattle.rt_base.specs.Sides.{Sides}
@@ -23,8 +23,10 @@ use Rattle.build.specs.declared.error.BuildError.TheVariants.{Memory as OutOfMem
 use Rattle.net_guides.specs.declared.index.NetGuides.{NetGuides}
 use Rattle.build.specs.declared.lookup.Lookup.{Lookup}
 use Rattle.build.specs.Built.{IsNetOf, fixed_of, grid_of, skipped_of}
-use Rattle.build.specs.Faults.{size_fault}
+use Rattle.build.specs.Faults.{size_fault, size_by, entry_count}
 use Rattle.build.specs.Ground.{AreGrounds, IsBuiltNet}
+use Rattle.build.specs.EntryCounts.{NetsHave}
+use Rattle.build.proofs.EntryTotals.{nets_unique, nets_counted}
 use Rattle.build.specs.Inputs.{Input}
 use Rattle.build.specs.Lines.{IsLevel}
 use Rattle.build.specs.Refusals.{Parts, Gives, Refuses}
@@ -55,6 +57,7 @@ ground_is i options known index tech tracks s b =
       is_tech = s.is_tech;
       same_layers = same;
       are_tracks = tracks_are tech i.def.tracks tracks s.asked.is_input.is_def.tracks b.levels b.steps (subst (λ (ls : List Layer). All (λ (l : Layer). line_count l i.def.tracks ≤ 65536) (routing_layers ls)) (sym same) count.lines);
+      few_lines = lines_few tech i.def.tracks tracks b.levels (subst (λ (ls : List Layer). All (λ (l : Layer). line_count l i.def.tracks ≤ 65536) (routing_layers ls)) (sym same) count.lines);
       few_shapes = count.shapes;
       few_levels = subst (λ (ls : List Layer). length (routing_layers ls) ≤ 16) (sym same) few;
     }
@@ -63,14 +66,14 @@ pub nets_of : (i : Input) (g : TrackSystem) (said : List DefNet) (nets : List Ne
 nets_of i g said nets h = AllZip-weaker (IsBuiltNet i g) (IsNetOf i g) (λ s n b. b.is_net_of) said nets h
 
 -- the parts of the design
-abbrev pub parts_are : (i : Input) (options : Options) (known : Lookup) (index : NetGuides) (tech : Tech) (tracks : Tracks) (nets : List Net) → Stands i options known index tech → AreBuilt i.def tech tracks → AllZip (IsBuiltNet i (system_of tech tracks i.def.die)) i.def.nets nets → Parts i
-parts_are i options known index tech tracks nets s b n = record {
+abbrev pub parts_are : (i : Input) (options : Options) (known : Lookup) (index : NetGuides) (tech : Tech) (tracks : Tracks) (entries : ℕ) → Stands i options known index tech → AreBuilt i.def tech tracks → NetsHave i (system_of tech tracks i.def.die) i.def.nets entries → Parts i
+parts_are i options known index tech tracks entries s b n = record {
   tech = tech;
   tech_of = s.tech_of;
   tracks = tracks;
   tracks_of = tracks_of i.lef i.def tech tracks s.tech_of.layers b.levels b.steps;
-  nets = nets;
-  nets_of = nets_of i (system_of tech tracks i.def.die) i.def.nets nets n;
+  entries = entries;
+  entries_of = n;
 }
 
 -- the design that is put together
@@ -82,14 +85,23 @@ pub record IsAssembled (i : Input) (options : Options) (known : Lookup) (index :
   pub fixed : d.fixed ≡ fixed_of i
   pub chosen : d.options ≡ options
   pub skipped : d.skipped ≡ skipped_of i.lef i.def
-  pub sizes : size_fault (grid_of i.def options) (fixed_of i) d.nets ≡ None
+  pub entries : ℕ
+  pub entries_of : NetsHave i (system_of d.tech d.tracks i.def.die) i.def.nets entries
+  pub sizes_of : size_by (grid_of i.def options) (fixed_of i) entries ≡ None
+
+-- its sizes, by the entries that are listed
+assembled_sizes : (i : Input) (options : Options) (known : Lookup) (index : NetGuides) (d : Design) → IsAssembled i options known index d → size_fault (grid_of i.def options) (fixed_of i) d.nets ≡ None
+assembled_sizes i options known index d a =
+    let g = system_of d.tech d.tracks i.def.die in
+    let one : entry_count d.nets ≡ a.entries = nets_unique i g i.def.nets (entry_count d.nets) a.entries (nets_counted i g i.def.nets d.nets (nets_of i g i.def.nets d.nets a.nets)) a.entries_of in
+    ap (size_by (grid_of i.def options) (fixed_of i)) one ∙ a.sizes_of
 
 pub assembled_gives : (i : Input) (options : Options) (known : Lookup) (index : NetGuides) (d : Design) → IsAssembled i options known index d → Gives i options d
 assembled_gives i options known index d a =
-    let p = parts_are i options known index d.tech d.tracks d.nets a.stands a.built a.nets in
+    let p = parts_are i options known index d.tech d.tracks a.entries a.stands a.built a.entries_of in
     record {
-      design = record { tech = p.tech_of; tracks = p.tracks_of; grid = a.grid; nets = p.nets_of; fixed = a.fixed; options = a.chosen; skipped = a.skipped };
-      passes = record { names = a.stands.names; counts = a.stands.counts; sizes = a.sizes };
+      design = record { tech = p.tech_of; tracks = p.tracks_of; grid = a.grid; nets = nets_of i (system_of d.tech d.tracks i.def.die) i.def.nets d.nets a.nets; fixed = a.fixed; options = a.chosen; skipped = a.skipped };
+      passes = record { names = a.stands.names; counts = a.stands.counts; sizes = assembled_sizes i options known index d a };
     }
 
 pub assembled_fits : (i : Input) (options : Options) (known : Lookup) (index : NetGuides) (d : Design) → IsAssembled i options known index d → IsDesign d
@@ -99,7 +111,7 @@ assembled_fits i options known index d a =
     let few : All (λ (l : Layer). line_count l i.def.tracks ≤ 65536) (routing_layers d.tech.layers) = subst (λ (ls : List Layer). All (λ (l : Layer). line_count l i.def.tracks ≤ 65536) (routing_layers ls)) (sym a.stands.tech_of.layers) count.lines in
     design_is i options d a.stands.asked.is_input.is_lef a.stands.asked.is_input.is_def a.stands.tech_of a.stands.is_tech g.are_tracks
     (lines_few d.tech i.def.tracks d.tracks a.built.levels few)
-    a.grid (few_tiles (grid_of i.def options) (fixed_of i) d.nets a.sizes) a.stands.asked.chosen.via a.stands.asked.chosen.least a.stands.asked.chosen.most a.chosen
+    a.grid (few_tiles (grid_of i.def options) (fixed_of i) d.nets (assembled_sizes i options known index d a)) a.stands.asked.chosen.via a.stands.asked.chosen.least a.stands.asked.chosen.most a.chosen
     (subst (λ (die : Sides). AllZip (IsBuiltNet i (system_of d.tech d.tracks die)) i.def.nets d.nets) (ap (λ g. g.die) (sym a.grid)) a.nets) a.fixed
     (fixed_are i d.tech a.stands.tech_of.layers a.stands.layers count.near)
 
@@ -133,9 +145,8 @@ grid_is def options least most =
     within (pos n) a b = omega (arith, ints)
     within (negsuc n) a b = absurd (omega (arith, ints))
 
-pub sizes_through : (i : Input) (options : Options) (g : Grid) (shapes : List Shape) (ns nets : List Net) → g ≡ grid_of i.def options → shapes ≡ fixed_of i → ns ≡ nets → size_fault g shapes ns ≡ size_fault (grid_of i.def options) (fixed_of i) nets
-sizes_through i options g shapes ns nets a b c =
-    ap (λ (x : Grid). size_fault x shapes ns) a ∙ ap (λ (x : List Shape). size_fault (grid_of i.def options) x ns) b ∙ ap (size_fault (grid_of i.def options) (fixed_of i)) c
+pub sizes_through : (i : Input) (options : Options) (g : Grid) (shapes : List Shape) (entries : ℕ) → g ≡ grid_of i.def options → shapes ≡ fixed_of i → size_by g shapes entries ≡ size_by (grid_of i.def options) (fixed_of i) entries
+sizes_through i options g shapes entries a b = ap (λ (x : Grid). size_by x shapes entries) a ∙ ap (λ (x : List Shape). size_by (grid_of i.def options) x entries) b
 
 pub built_through : (def : Def) (tech : Tech) (tracks : Tracks) (rows : List TrackRow) (layers : List Layer) → rows ≡ def.tracks → layers ≡ tech.layers → AllZip (IsLevel rows) (routing_layers layers) tracks.lines → tracks.largest_step ≡ map (largest_step rows) (routing_layers layers) → AreBuilt def tech tracks
 built_through def tech tracks rows layers r l lines steps = record {
@@ -147,5 +158,5 @@ pub nets_through : (i : Input) (g : TrackSystem) (said : List DefNet) (nets : Li
 nets_through i g said nets s h = subst (λ (ss : List DefNet). AllZip (IsBuiltNet i g) ss nets) s h
 
 -- the refusal of a size
-pub too_large : (i : Input) (options : Options) (known : Lookup) (index : NetGuides) (tech : Tech) (tracks : Tracks) (nets : List Net) (e : BuildError) → Stands i options known index tech → AreBuilt i.def tech tracks → AllZip (IsBuiltNet i (system_of tech tracks i.def.die)) i.def.nets nets → size_fault (grid_of i.def options) (fixed_of i) nets ≡ Some e → Refuses i options e
-too_large i options known index tech tracks nets e s b n h = by_size s.names (parts_are i options known index tech tracks nets s b n) s.counts h
+pub too_large : (i : Input) (options : Options) (known : Lookup) (index : NetGuides) (tech : Tech) (tracks : Tracks) (entries : ℕ) (e : BuildError) → Stands i options known index tech → AreBuilt i.def tech tracks → NetsHave i (system_of tech tracks i.def.die) i.def.nets entries → size_by (grid_of i.def options) (fixed_of i) entries ≡ Some e → Refuses i options e
+too_large i options known index tech tracks entries e s b n h = by_size s.names (parts_are i options known index tech tracks entries s b n) s.counts h

@@ -1,4 +1,3 @@
-pub mod Ascending
 pub mod Assembling
 pub mod CellLemmas
 pub mod DesignLemmas
@@ -11,8 +10,10 @@ pub mod Steps
 pub mod TechLemmas
 pub mod TileLemmas
 pub mod TrackLemmas
+pub mod EntryTotals
 pub mod Uniqueness
 pub mod WireLemmas
 pub mod GuideLemmas
 pub mod UsableVias
 pub mod Zips
+pub mod PinRects

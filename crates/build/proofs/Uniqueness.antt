@@ -31,6 +31,8 @@ use Rattle.build.specs.declared.error.BuildError.{BuildError}
 use Rattle.build.specs.declared.error.BuildError.TheVariants.{Scale, NoMacro, NoComponent, NoPin, NoLayer, NoNet, Wiring, PinTwice, NoTracks, Limit, Memory}
 use Rattle.build.specs.Faults.{entry_count, count_fault, size_by, size_fault}
 use Rattle.build.specs.Inputs.{Input}
+use Rattle.build.specs.EntryCounts.{NetsHave}
+use Rattle.build.proofs.EntryTotals.{nets_unique, nets_counted}
 use Rattle.build.specs.Refusals.{Parts, Gives, Refuses}
 use Rattle.build.specs.Refusals.Refuses.{by_name, by_count, by_size}
 
@@ -78,24 +80,6 @@ ascending_unique {X} R apart (x ∷ xs) (y ∷ ys) ux uy to from =
 
 below_apart : (a b : ℤ) → a <ℤ b → b <ℤ a → ⊥
 below_apart a b h k = omega (arith, ints)
-
-point_apart : (p q : Point) → IsPointBefore p q → IsPointBefore q p → ⊥
-point_apart p q (inl a) (inl b) = omega (arith, ints)
-point_apart p q (inl a) (inr b) = omega (arith, ints, b.0)
-point_apart p q (inr a) (inl b) = omega (arith, ints, a.0)
-point_apart p q (inr a) (inr b) = omega (arith, ints, a.1, b.1)
-
-vertex_apart : (v w : Vertex) → IsVertexBefore v w → IsVertexBefore w v → ⊥
-vertex_apart v w (inl a) (inl b) = omega arith
-vertex_apart v w (inl a) (inr b) = omega (arith, b.0)
-vertex_apart v w (inr a) (inl b) = omega (arith, a.0)
-vertex_apart v w (inr a) (inr b) = point_apart v.point w.point a.1 b.1
-
-pub entry_apart : (e f : Entry) → IsEntryBefore e f → IsEntryBefore f e → ⊥
-entry_apart e f (inl a) (inl b) = omega arith
-entry_apart e f (inl a) (inr b) = omega (arith, b.0)
-entry_apart e f (inr a) (inl b) = omega (arith, a.0)
-entry_apart e f (inr a) (inr b) = vertex_apart e.vertex f.vertex a.1 b.1
 
 -- the technology of a LEF is one
 bool_unique : {P : Type 0} → (a b : Bool) → IsTrue a ↔ P → IsTrue b ↔ P → a ≡ b
@@ -149,47 +133,16 @@ tracks_unique lef def a b h k =
     let steps : a.largest_step ≡ b.largest_step = h.steps ∙ sym k.steps in
     (λ i. record { lines = lines i; largest_step = steps i })
 
--- the pins of a net have one list of entries each
-pins_count : (lef : Lef) (def : Def) (g : TrackSystem) (said : List (ℕ × (List ℕ × List ℕ))) (ps qs : List Pin) → AllZip (IsPinOf lef def g) said ps → AllZip (IsPinOf lef def g) said qs → sum_by (λ (p : Pin). length p.entries) ps ≡ sum_by (λ (p : Pin). length p.entries) qs
-pins_count lef def g [] [] [] h k = refl
-pins_count lef def g [] [] (q ∷ qs) h k = absurd k
-pins_count lef def g [] (p ∷ ps) qs h k = absurd h
-pins_count lef def g (s ∷ ss) [] qs h k = absurd h
-pins_count lef def g (s ∷ ss) (p ∷ ps) [] h k = absurd k
-pins_count lef def g (s ∷ ss) (p ∷ ps) (q ∷ qs) h k =
-    let rects : p.rects ≡ q.rects = h.0.rects ∙ sym k.0.rects in
-    let there : AreEntriesOf g s.0 p.rects q.entries = subst (λ rs. AreEntriesOf g s.0 rs q.entries) (sym rects) k.0.entries in
-    let one : p.entries ≡ q.entries = ascending_unique IsEntryBefore entry_apart p.entries q.entries h.0.entries.ordered there.ordered (λ e m. (there.exactly e).1 ((h.0.entries.exactly e).0 m)) (λ e m. (h.0.entries.exactly e).1 ((there.exactly e).0 m)) in
-    sum_by-cons (λ (p : Pin). length p.entries) p ps
-    ∙ ap (λ (n : ℕ). n + sum_by (λ (p : Pin). length p.entries) ps) (ap length one)
-    ∙ ap (λ (n : ℕ). length q.entries + n) (pins_count lef def g ss ps qs h.1 k.1)
-    ∙ sym (sum_by-cons (λ (p : Pin). length p.entries) q qs)
-
-abbrev pin_sum : Net → ℕ
-pin_sum net = sum_by (λ (pin : Pin). length pin.entries) net.pins
-
-pub entry_count_unique : (i : Input) (g : TrackSystem) (said : List DefNet) (ms ns : List Net) → AllZip (IsNetOf i g) said ms → AllZip (IsNetOf i g) said ns → entry_count ms ≡ entry_count ns
-entry_count_unique i g [] [] [] h k = refl
-entry_count_unique i g [] [] (n ∷ ns) h k = absurd k
-entry_count_unique i g [] (m ∷ ms) ns h k = absurd h
-entry_count_unique i g (s ∷ ss) [] ns h k = absurd h
-entry_count_unique i g (s ∷ ss) (m ∷ ms) [] h k = absurd k
-entry_count_unique i g (s ∷ ss) (m ∷ ms) (n ∷ ns) h k =
-    sum_by-cons pin_sum m ms
-    ∙ ap (λ (c : ℕ). c + entry_count ms) (pins_count i.lef i.def g (enumerate_from 0 s.pins) m.pins n.pins h.0.pins k.0.pins)
-    ∙ ap (λ (c : ℕ). pin_sum n + c) (entry_count_unique i g ss ms ns h.1 k.1)
-    ∙ sym (sum_by-cons pin_sum n ns)
-
 -- the sizes of the design don't depend on how it is built
-sizes_same : (i : Input) (options : Options) (p q : Parts i) → size_fault (grid_of i.def options) (fixed_of i) p.nets ≡ size_fault (grid_of i.def options) (fixed_of i) q.nets
+sizes_same : (i : Input) (options : Options) (p q : Parts i) → size_by (grid_of i.def options) (fixed_of i) p.entries ≡ size_by (grid_of i.def options) (fixed_of i) q.entries
 sizes_same i options p q =
     let te : q.tech ≡ p.tech = tech_unique i q.tech p.tech q.tech_of p.tech_of in
     let tr : q.tracks ≡ p.tracks = tracks_unique i.lef i.def q.tracks p.tracks q.tracks_of p.tracks_of in
-    let by_tech : AllZip (IsNetOf i (system_of p.tech q.tracks i.def.die)) i.def.nets q.nets =
-    subst (λ (t : Tech). AllZip (IsNetOf i (system_of t q.tracks i.def.die)) i.def.nets q.nets) te q.nets_of in
-    let by_tracks : AllZip (IsNetOf i (system_of p.tech p.tracks i.def.die)) i.def.nets q.nets =
-    subst (λ (t : Tracks). AllZip (IsNetOf i (system_of p.tech t i.def.die)) i.def.nets q.nets) tr by_tech in
-    ap (size_by (grid_of i.def options) (fixed_of i)) (entry_count_unique i (system_of p.tech p.tracks i.def.die) i.def.nets p.nets q.nets p.nets_of by_tracks)
+    let by_tech : NetsHave i (system_of p.tech q.tracks i.def.die) i.def.nets q.entries =
+    subst (λ (t : Tech). NetsHave i (system_of t q.tracks i.def.die) i.def.nets q.entries) te q.entries_of in
+    let by_tracks : NetsHave i (system_of p.tech p.tracks i.def.die) i.def.nets q.entries =
+    subst (λ (t : Tracks). NetsHave i (system_of p.tech t i.def.die) i.def.nets q.entries) tr by_tech in
+    ap (size_by (grid_of i.def options) (fixed_of i)) (nets_unique i (system_of p.tech p.tracks i.def.die) i.def.nets p.entries q.entries p.entries_of by_tracks)
 
 counts_same : (i : Input) (t u : Tech) → IsTechOf i t → IsTechOf i u → count_fault i t ≡ count_fault i u
 counts_same i t u h k = ap (count_fault i) (tech_unique i t u h k)
@@ -214,7 +167,7 @@ pub no_refusal : (i : Input) (options : Options) (d : Design) (e : BuildError) �
 no_refusal i options d e g (by_name h) = clash _ e h g.passes.names
 no_refusal i options d e g (by_count h t u c) = clash _ e c (counts_same i t d.tech u g.design.tech ∙ g.passes.counts)
 no_refusal i options d e g (by_size h p c s) =
-    let mine : Parts i = record { tech = d.tech; tech_of = g.design.tech; tracks = d.tracks; tracks_of = g.design.tracks; nets = d.nets; nets_of = g.design.nets } in
+    let mine : Parts i = record { tech = d.tech; tech_of = g.design.tech; tracks = d.tracks; tracks_of = g.design.tracks; entries = entry_count d.nets; entries_of = nets_counted i (system_of d.tech d.tracks i.def.die) i.def.nets d.nets g.design.nets } in
     clash _ e s (sizes_same i options p mine ∙ g.passes.sizes)
 
 -- what isn't another fault is want of memory

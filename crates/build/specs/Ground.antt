@@ -1,5 +1,5 @@
 -- What nets stand on, as the code keeps it.
-use Rattle.std.specs.Prelude.{◌≡◌, ◌≤◌, length}
+use Rattle.std.specs.Prelude.{◌≡◌, ◌≤◌, ℤ, List, length, All}
 use Rattle.rt_base.specs.declared.tech.Tech.{Tech}
 use Rattle.track_graph.specs.declared.design.Net.{Net}
 use Rattle.track_graph.specs.declared.design.Tracks.{Tracks}
@@ -29,6 +29,7 @@ pub record AreGrounds (i : Input) (known : Lookup) (index : NetGuides) (tech : T
   pub is_tech : IsTech tech
   pub same_layers : tech.layers ≡ i.lef.layers
   pub are_tracks : AreTracks tech tracks
+  pub few_lines : All (λ (lines : List ℤ). length lines ≤ 65536) tracks.lines
   pub few_shapes : length (fixed_of i) ≤ 4194304
   pub few_levels : length (routing_layers tech.layers) ≤ 16
 

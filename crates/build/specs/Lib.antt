@@ -1,4 +1,5 @@
 pub mod Built
+pub mod EntryCounts
 pub mod Faults
 pub mod Findings
 pub mod Ground

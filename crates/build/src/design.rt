@@ -16,6 +16,7 @@ ghost use Rattle.build.specs.declared.error.BuildError.TheVariants.{Memory as Ou
 
 use crate::checks::check_names;
 use crate::copies::copy_counts;
+use crate::entry_counts::count_all;
 use crate::error::BuildError;
 use crate::given::Given;
 use crate::guide_index::guide_index;
@@ -66,12 +67,13 @@ fn assembled(
         tech: &tech,
         tracks: &tracks,
     };
-    let nets = nets(alloc, &on, given.def.nets.as_slice())?;
     let grid = Grid {
         die: given.def.die,
         tile: options.tile,
     };
-    check_sizes(&grid, nets.as_slice(), &shapes)?;
+    let entries = count_all(alloc, &on)?;
+    check_sizes(&grid, entries, &shapes)?;
+    let nets = nets(alloc, &on, given.def.nets.as_slice())?;
     let skipped = skipped(alloc, given.lef, given.def)?;
     Ok(Design {
         tech,

@@ -1,5 +1,5 @@
 //! The tracks of the levels.
-ghost use Rattle.std.specs.Prelude.{◌≡◌, ◌⊎◌, ℤ, pos, ◌+◌, ◌≤◌, ◌<◌, ◌<ℤ◌, ◌+ℤ◌, ◌*ℤ◌, length, map, IfOk, OnOk, All, AllPairs, Contains, ◌↔◌};
+ghost use Rattle.std.specs.Prelude.{◌≡◌, ◌⊎◌, ℤ, pos, ◌+◌, ◌≤◌, ◌<◌, ◌+ℤ◌, ◌*ℤ◌, length, map, IfOk, OnOk, All, Contains, ◌↔◌};
 ghost use Rattle.std.specs.List.{AllZip};
 ghost use Rattle.def_text.specs.Defs.{IsTrackRow};
 ghost use Rattle.build.specs.TrackLines.{HasLine, line_count, largest_step, routing_layers};
@@ -7,6 +7,7 @@ ghost use Rattle.build.specs.Lines.{HasSomeLine, IsLevel};
 
 use crate::track_lines::is_used;
 use def_text::TrackRow;
+use pin_access::ascend;
 use rt_base::{Layer, Memory, Seq};
 use std::alloc::Global;
 use track_graph::Tracks;
@@ -45,16 +46,6 @@ fn said_lines(alloc: Global, layer: &Layer, rows: &[TrackRow]) -> Result<Vec<i64
         }
     }
     Ok(lines)
-}
-
-/// Puts numbers in order, each once.
-fn ascend(lines: &mut Vec<i64>)
-    ensures ascending { AllPairs (λ a b. a <ℤ b) lines.new.items }
-    ensures lines { (z : ℤ) → Contains lines.new.items z ↔ Contains lines.old.items z }
-    ensures count { length lines.new.items ≤ length lines.old.items }
-{
-    lines.sort_unstable();
-    lines.dedup();
 }
 
 /// The lines of a level.

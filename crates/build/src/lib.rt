@@ -4,6 +4,7 @@
 mod checks;
 mod copies;
 mod design;
+mod entry_counts;
 mod error;
 mod given;
 mod guide_index;

@@ -1,10 +1,9 @@
 //! Counts, each against its most.
-ghost use Rattle.std.specs.Prelude.{◌≡◌, ◌≤◌, ◌≤ℤ◌, ◌*◌, ◌^◌, pos, length, sum_by, IfOk};
-ghost use Rattle.rt_base.specs.Ranges.{AreSidesWithin};
+ghost use Rattle.std.specs.Prelude.{◌≡◌, ◌≤◌, ◌≤ℤ◌, ◌*◌, ◌^◌, pos, length, sum_by};
 ghost use Rattle.build.specs.declared.error.Limited.TheVariants.{Tracks as OfTracks};
 ghost use Rattle.rt_base.specs.Tiles.{columns_of, rows_of};
 ghost use Rattle.build.specs.Built.{fixed_of};
-ghost use Rattle.build.specs.Faults.{first_by, lines_said, limit_fault, farthest, largest_coordinate, usable_count, count_fault, entry_count, met_count, size_fault};
+ghost use Rattle.build.specs.Faults.{first_by, lines_said, limit_fault, farthest, largest_coordinate, usable_count, count_fault, met_count, size_by};
 ghost use Rattle.build.specs.Indexes.{Tells};
 ghost use Rattle.build.specs.Inputs.{input_by};
 ghost use Rattle.build.specs.TrackLines.{routing_layers};
@@ -14,8 +13,7 @@ use crate::error::{BuildError, Limited};
 use crate::given::Given;
 use crate::track_lines::times_used;
 use def_text::TrackRow;
-use rt_base::{Grid, Layer, Memory, Rect, Shape, Tech};
-use track_graph::{Net, Pin};
+use rt_base::{Grid, Layer, Rect, Shape, Tech};
 
 /// How many vias routing may use.
 fn usable(tech: &Tech) -> usize
@@ -77,35 +75,11 @@ pub fn check_counts(given: &Given, tech: &Tech, shapes: &[Shape]) -> Result<(), 
     check_lines(given.lef.layers.as_slice(), given.def.tracks.as_slice())?;
     check_limit(Limited::Nets, given.def.nets.len() as u128, 1_000_000)?;
     check_limit(Limited::FixedShapes, shapes.len() as u128, 4_194_304)?;
-    check_limit(Limited::Coordinate, u128::from(coordinate(shapes)), 1_073_741_824)
-}
-
-/// How many entries these pins have.
-fn count_pins(pins: &[Pin]) -> Result<u64, Memory>
-    ensures { IfOk result (λ n. n ≡ sum_by (λ p. length p.entries) pins.now) }
-{
-    let mut count = 0u64;
-    for pin in pins {
-        count = match count.checked_add(pin.entries.len() as u64) {
-            Some(count) => count,
-            None => return Err(Memory),
-        };
-    }
-    Ok(count)
-}
-
-/// How many entries the pins of these nets have.
-fn count_entries(nets: &[Net]) -> Result<u64, Memory>
-    ensures { IfOk result (λ n. n ≡ entry_count nets.now) }
-{
-    let mut count = 0u64;
-    for net in nets {
-        count = match count.checked_add(count_pins(net.pins.as_slice())?) {
-            Some(count) => count,
-            None => return Err(Memory),
-        };
-    }
-    Ok(count)
+    check_limit(
+        Limited::Coordinate,
+        u128::from(coordinate(shapes)),
+        1_073_741_824,
+    )
 }
 
 /// How many tiles a rectangle meets.
@@ -136,15 +110,15 @@ fn count_pairs(grid: &Grid, shapes: &[Shape]) -> u64
     pairs
 }
 
-/// The sizes of the design.
-pub fn check_sizes(grid: &Grid, nets: &[Net], shapes: &[Shape]) -> Result<(), BuildError>
+/// The sizes of the design, of which the pins have so many entries.
+pub fn check_sizes(grid: &Grid, entries: u128, shapes: &[Shape]) -> Result<(), BuildError>
     requires least { pos 1 ≤ℤ grid.now.tile }
-    requires die { AreSidesWithin (2 ^ 30) grid.now.die }
     requires shapes { length shapes.now ≤ 4194304 }
-    ensures { Tells result (size_fault grid.now shapes.now nets.now) }
+    ensures { Tells result (size_by grid.now shapes.now entries) }
 {
-    check_limit(Limited::Entries, u128::from(count_entries(nets)?), 16_777_216)?;
+    check_limit(Limited::Entries, entries, 16_777_216)?;
     let tiles = u128::from(grid.columns()) * u128::from(grid.rows());
     check_limit(Limited::Tiles, tiles, 1_048_576)?;
-    check_limit(Limited::TileShapes, u128::from(count_pairs(grid, shapes)), 16_777_216)
+    let pairs = u128::from(count_pairs(grid, shapes));
+    check_limit(Limited::TileShapes, pairs, 16_777_216)
 }

@@ -87,7 +87,7 @@ fn guide(alloc: Global, on: &Ground, name: &[u8]) -> Result<Seq<(u8, Rect)>, Mem
 }
 
 /// The rectangles of the pin of a connection, where it is placed.
-fn connected(
+pub fn connected(
     alloc: Global,
     on: &Ground,
     connection: &(Name, Name),

@@ -1,12 +1,12 @@
 -- Each net and each special net of a text has a name.
-use Rattle.std.proofs.Common.{◌≡◌, ◌++◌, ℕ, Bool, true, false, List, [], ◌∷◌, length, All, Result, Ok, Err, Option, Some, None, IfOk, ap, sym, subst, arith, refl, codes}
+use Rattle.std.proofs.Common.{◌≡◌, ◌++◌, ℕ, Bool, true, false, List, [], ◌∷◌, All, Result, Ok, Err, Option, Some, None, IfOk, sym, subst, arith, refl, codes}
 use Rattle.rt_base.specs.declared.token.Token.{Token}
 use Rattle.rt_base.specs.Names.{IsName}
 use Rattle.rt_base.specs.Scan.{IsCutInto}
 use Rattle.rt_base.specs.Sides.{Sides}
 use Rattle.rt_forms.proofs.Laws.{ok_is}
 use Rattle.rt_forms.specs.Lexeme.{Lexeme, End, Place, put, places, last_line}
-use Rattle.rt_forms.specs.Form.{Form, next, check, done, ◌>>=◌, loop, nothing, More, Done}
+use Rattle.rt_forms.specs.Form.{Form, next, check, done, ◌>>=◌, loop, nothing, More}
 use Rattle.rt_forms.specs.Clauses.{IsText}
 use Rattle.rt_forms.specs.Reading.{a_name, the_word, semicolon, left, is_name_word, if_so}
 use Rattle.def_text.specs.declared.error.DefError.{DefError}

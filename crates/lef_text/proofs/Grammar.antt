@@ -323,7 +323,7 @@ lawful_macro_line : (units : ℕ) (name : List ℕ) (s : Cell) → Lawful (macro
 unfolding macros.macro_line
 lawful_macro_line units name s = search (lawful_bind, lawful_next, lawful_macro_by)
 
-lawful_macro_lines : (units : ℕ) (name : List ℕ) (s : Cell) → Lawful (loop (macros.macro_line units name) s)
+pub lawful_macro_lines : (units : ℕ) (name : List ℕ) (s : Cell) → Lawful (loop (macros.macro_line units name) s)
 unfolding macros.macro_line
 lawful_macro_lines units name s = lawful_loop (macros.macro_line units name) s (lawful_macro_line units name) (λ u. search consuming)
 
@@ -363,7 +363,7 @@ lawful_statement_by units lib w statements.Macro = lawful_macro units lib
 lawful_statement_by units lib w statements.End = search lawful
 lawful_statement_by units lib w statements.Unknown = search lawful
 
-lawful_statement : (units : ℕ) (lib : Library) → Lawful (lefs.statement units lib)
+pub lawful_statement : (units : ℕ) (lib : Library) → Lawful (lefs.statement units lib)
 unfolding lefs.statement
 lawful_statement units lib = search (lawful_bind, lawful_next, lawful_statement_by)
 

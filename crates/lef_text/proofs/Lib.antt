@@ -8,6 +8,8 @@ pub mod Sound
 pub mod Rectangles
 pub mod Arrays
 pub mod SoundMacros
+pub mod Tallies
+pub mod SoundCounts
 pub mod SoundVias
 pub mod Bytes
 pub mod Counts

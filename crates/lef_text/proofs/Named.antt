@@ -64,5 +64,5 @@ words_named text tokens cut =
 pub plain_names : (l : Lef) → IsLef l → All (λ (k : Layer). IsPlainWord k.name) l.layers × All (λ (v : Via). IsPlainWord v.name) l.vias
 plain_names l h = (
   All-weaker IsLayer (λ (k : Layer). IsPlainWord k.name) (λ k q. q.name.plain) l.layers h.layers,
-  All-weaker (IsVia (length l.layers)) (λ (v : Via). IsPlainWord v.name) (λ v q. q.name.plain) l.vias h.vias
+  All-weaker (IsVia (length l.layers)) (λ (v : Via). IsPlainWord v.name) (λ v q. q.name.plain) l.vias h.vias,
 )

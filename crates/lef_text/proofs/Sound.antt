@@ -1,5 +1,5 @@
 -- What holds of what is read so far.
-use Rattle.std.proofs.Common.{eqb-true, ◌≡◌, ◌≢◌, ◌||◌, zero, suc, ℕ, ◌+◌, ◌≤◌, ◌<◌, ◌^◌, ◌==◌, Bool, true, false, not, List, [], ◌∷◌, ◌++◌, length, map, Result, Ok, Err, Option, Some, None, ℤ, pos, negsuc, ◌≤ℤ◌, int_lt, refl, sym, ◌∙◌, ap, subst, arith, bytes_eq, codes}
+use Rattle.std.proofs.Common.{eqb-true, ◌≡◌, ◌≢◌, ◌||◌, zero, suc, ℕ, ◌+◌, ◌≤◌, ◌<◌, ◌^◌, Bool, true, false, not, List, [], ◌∷◌, ◌++◌, length, map, Result, Ok, Err, Option, Some, None, ℤ, pos, negsuc, ◌≤ℤ◌, int_lt, refl, sym, ◌∙◌, ap, subst, arith, bytes_eq, codes}
 use Rattle.std.specs.Prelude.{All, Contains, IfSome, unwrap_or}
 use Rattle.std.specs.Int.{int_max}
 use Rattle.std.specs.List.{list_any}
@@ -18,7 +18,7 @@ use Rattle.rt_base.specs.Names.{IsName}
 use Rattle.rt_base.specs.Tables.{IsTable}
 use Rattle.rt_forms.specs.Lexeme.{Place}
 use Rattle.rt_forms.specs.Form.{next, one, check, done, loop, Turn, More, Done}
-use Rattle.rt_forms.specs.Reading.{is_name_word, at_line, semicolon, rest, the_word}
+use Rattle.rt_forms.specs.Reading.{is_name_word, semicolon, rest, the_word}
 use Rattle.rt_words.specs.Reading.{decimal_of}
 use Rattle.rt_words.specs.declared.number.NumberFault.{NumberFault}
 use Rattle.lef_text.specs.declared.error.LefError.{LefError}

@@ -8,10 +8,9 @@ use Rattle.std.proofs.lemmas.List.Quantifiers.{all_pairs_push}
 use Rattle.rt_base.specs.Ranges.{IsWithin}
 use Rattle.rt_base.specs.Tables.{IsTable, IsTableRow}
 use Rattle.rt_forms.specs.Lexeme.{Place}
-use Rattle.rt_forms.specs.Form.{next, one, check, done, loop, Turn, More, Done, turn}
+use Rattle.rt_forms.specs.Form.{next, one, check, loop, Done, turn}
 use Rattle.rt_words.specs.Reading.{decimal_of}
 use Rattle.rt_words.specs.declared.number.NumberFault.{NumberFault}
-use Rattle.lef_text.specs.declared.error.LefError.{LefError}
 use Rattle.lef_text.specs.declared.error.LefError.TheVariants.{Number}
 use Rattle.lef_text.specs.declared.library.Lengths.{Lengths}
 use Rattle.lef_text.specs.declared.library.Rows.{Rows}

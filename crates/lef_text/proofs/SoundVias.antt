@@ -1,7 +1,7 @@
 -- What holds of vias, and of the whole text.
-use Rattle.std.proofs.Common.{◌≡◌, ◌≢◌, ℕ, ◌+◌, ◌<◌, ◌^◌, ◌&&◌, nat_lt, Bool, true, false, not, List, [], ◌∷◌, ◌++◌, length, Result, Ok, Err, Option, Some, None, ℤ, pos, negsuc, ◌≤ℤ◌, nat_le, refl, sym, ◌∙◌, ap, subst, arith, bytes_eq, codes, position}
-use Rattle.std.specs.Prelude.{All, IfSome}
-use Rattle.std.specs.List.{list_any, list_all}
+use Rattle.std.proofs.Common.{◌≡◌, ◌≢◌, ℕ, ◌+◌, ◌<◌, ◌^◌, ◌&&◌, ◌≤◌, Bool, true, false, not, List, [], ◌∷◌, ◌++◌, length, Result, Ok, Err, Option, Some, None, ℤ, pos, negsuc, ◌≤ℤ◌, nat_le, refl, sym, ◌∙◌, ap, subst, arith, bytes_eq, codes, position}
+use Rattle.std.specs.Prelude.{All, IfSome, IfOk}
+use Rattle.std.specs.List.{list_any}
 use Rattle.std.proofs.lemmas.Bool.Decides.{nat_tests}
 use Rattle.std.proofs.lemmas.Int.{ints}
 use Rattle.std.proofs.lemmas.List.{map-append}
@@ -12,7 +12,10 @@ use Rattle.rt_base.specs.Names.{IsName}
 use Rattle.rt_base.specs.Sides.{Sides}
 use Rattle.rt_base.specs.Ranges.{IsWithin, AreSidesWithin}
 use Rattle.rt_base.proofs.Ranges.{sides_from_within}
-use Rattle.rt_forms.specs.Lexeme.{Place, Lexeme}
+use Rattle.rt_base.specs.declared.token.Token.{Token}
+use Rattle.rt_base.specs.Scan.{IsCutInto}
+use Rattle.rt_forms.specs.Clauses.{IsText}
+use Rattle.rt_forms.specs.Lexeme.{Place, Lexeme, End, places, last_line}
 use Rattle.rt_forms.specs.Form.{next, one, loop, text, Turn, More, Done}
 use Rattle.rt_forms.specs.Reading.{is_name_word, semicolon, rest, the_word, up_to_word, up_to_pair}
 use Rattle.lef_text.specs.declared.error.LefError.{LefError}
@@ -25,7 +28,7 @@ use Rattle.lef_text.specs.declared.via_words.ViaLine.TheVariants as lines
 use Rattle.lef_text.specs.declared.statement_words.Statement.{Statement}
 use Rattle.lef_text.specs.declared.statement_words.Statement.TheVariants as statements
 use Rattle.std.proofs.lemmas.List.Elements.{All-head, All-tail, All-cons}
-use Rattle.lef_text.specs.IsLef.{has_few_pins, IsLef, IsMacro, IsVia, IsOn, AreDistinct, is_path_word}
+use Rattle.lef_text.specs.IsLef.{IsLef, IsMacro, IsVia, IsOn, AreDistinct, is_path_word}
 use Rattle.lef_text.specs.Words.{via_line_of, statement_of}
 use Rattle.lef_text.specs.Numbers.{rectangle, length_at_least, within, count}
 use Rattle.lef_text.specs.Polygons.{polygon}
@@ -41,9 +44,10 @@ use Rattle.lef_text.specs.declared.via_words.FormLine.{FormLine}
 use Rattle.lef_text.specs.declared.via_words.FormLine.TheVariants as forms
 use Rattle.lef_text.proofs.Arrays.{most, IsPair, IsEnclosure, IsArray, AreThree, AreFormLines, form_is, is_form, placed, rects_at_end_is}
 use Rattle.lef_text.specs.Lef as lefs
-use Rattle.lef_text.proofs.Yields.{Yields, yields_bind, yields_then, yields_done, yields_refused, yields_one, yields_choose, OfTurn, yields_loop, yields_text}
+use Rattle.lef_text.proofs.Yields.{Yields, yields_bind, yields_then, yields_done, yields_refused, yields_one, yields_choose, OfTurn, yields_loop}
 use Rattle.lef_text.proofs.Small.{passed, passed_so, ok_is, on_line}
-use Rattle.lef_text.proofs.Named.{IsNamed}
+use Rattle.lef_text.proofs.Named.{IsNamed, words_named}
+use Rattle.lef_text.proofs.SoundCounts.{HasFewOf, few_of}
 use Rattle.lef_text.proofs.Gives.{Gives, gives_always, gives_bind, gives_then, gives_one, gives_text}
 use Rattle.lef_text.proofs.Rectangles.{yields_rectangle, yields_polygon, shapes_all, slice_get_all}
 use Rattle.lef_text.proofs.SoundMacros.{yields_macro}
@@ -314,44 +318,34 @@ gives_lef units =
     (gives_text (lefs.statement units) lefs.empty IsSound (λ lib h. gives_then next _ SoundTurn (λ w. gives_statement units lib w (statement_of w.word) h)) empty_sound)
     (λ lib h. gives_always _ IsLefSound (yields_done (lefs.lef_of lib) IsLefSound (record { is_sound = (lib, h, refl) })))
 
-both_true : (a b : Bool) → (a && b) ≡ true → (a ≡ true) × (b ≡ true)
-both_true true b h = (refl, h)
-both_true false b h = absurd cc
-
-few_is : (n : ℕ) → nat_lt n (2 ^ 32) ≡ true → n < 2 ^ 32
-few_is n h = grind (arith, nat_tests)
-
-few_all : (ms : List Macro) → list_all has_few_pins ms ≡ true → All (λ (m : Macro). length m.pins < 2 ^ 32) ms
-few_all [] h = All-nil _
-few_all (m ∷ ms) h =
-    let both = both_true (has_few_pins m) (list_all has_few_pins ms) h in
-    All-cons (λ (k : Macro). length k.pins < 2 ^ 32) m ms (few_is (length m.pins) both.0) (few_all ms both.1)
-
-macro_is : (layers : ℕ) (ms : List Macro) → All (IsMacroRead layers) ms → All (λ (m : Macro). length m.pins < 2 ^ 32) ms → All (IsMacro layers) ms
-macro_is layers [] h f = All-nil (IsMacro layers)
-macro_is layers (m ∷ ms) h f =
+macro_is : (layers n : ℕ) (ms : List Macro) → n < 2 ^ 32 → All (IsMacroRead layers) ms → All (λ (m : Macro). length m.pins ≤ n) ms → All (IsMacro layers) ms
+macro_is layers n [] lt h f = All-nil (IsMacro layers)
+macro_is layers n (m ∷ ms) lt h f =
     let q = All-head (IsMacroRead layers) m ms h in
-    let few = All-head (λ (k : Macro). length k.pins < 2 ^ 32) m ms f in
-    All-cons (IsMacro layers) m ms (record { name = q.name; w = q.w; h = q.h; pins = q.pins; few_pins = few; obs = q.obs }) (macro_is layers ms (All-tail (IsMacroRead layers) m ms h) (All-tail (λ (k : Macro). length k.pins < 2 ^ 32) m ms f))
+    let few = All-head (λ (k : Macro). length k.pins ≤ n) m ms f in
+    All-cons (IsMacro layers) m ms (record { name = q.name; w = q.w; h = q.h; pins = q.pins; few_pins = omega (arith, few, lt); obs = q.obs }) (macro_is layers n ms lt (All-tail (IsMacroRead layers) m ms h) (All-tail (λ (k : Macro). length k.pins ≤ n) m ms f))
 
-pub is_lef : (l : Lef) → IsLefSound l → length l.layers < 2 ^ 32 → length l.vias < 2 ^ 32 → length l.macros < 2 ^ 32 → list_all has_few_pins l.macros ≡ true → IsLef l
-is_lef l s a b c d =
+is_lef : (n : ℕ) (l : Lef) → n < 2 ^ 32 → IsLefSound l → HasFewOf n l → IsLef l
+is_lef n l lt s few =
     let lib = s.is_sound.0 in
     let h = s.is_sound.1 in
     let e = s.is_sound.2 in
-    let a' : length lib.layers < 2 ^ 32 = subst (λ (k : Lef). length k.layers < 2 ^ 32) e a in
-    let b' : length lib.vias < 2 ^ 32 = subst (λ (k : Lef). length k.vias < 2 ^ 32) e b in
-    let c' : length lib.macros < 2 ^ 32 = subst (λ (k : Lef). length k.macros < 2 ^ 32) e c in
-    let d' : list_all has_few_pins lib.macros ≡ true = subst (λ (k : Lef). list_all has_few_pins k.macros ≡ true) e d in
+    let f : HasFewOf n (lefs.lef_of lib) = subst (HasFewOf n) e few in
     subst IsLef (sym e) (record {
       layers = h.layers;
       directions = h.alternate;
       vias = h.vias;
-      macros = macro_is (length lib.layers) lib.macros h.macros (few_all lib.macros d');
+      macros = macro_is (length lib.layers) n lib.macros lt h.macros f.pins;
       layer_names = h.layers_apart;
       via_names = rw h.vias_named h.via_names;
       macro_names = rw h.macros_named h.macro_names;
-      few_layers = a';
-      few_vias = b';
-      few_macros = c';
+      few_layers = omega (arith, f.layers, lt);
+      few_vias = omega (arith, f.vias, lt);
+      few_macros = omega (arith, f.macros, lt);
     })
+
+-- what is read of a text below 2 ^ 32 bytes
+pub result_is_lef : (units : ℕ) (bytes : List ℕ) (tokens : List Token) (r : Result Lef LefError) → length bytes < 2 ^ 32 → IsCutInto bytes tokens → IfOk r (λ l. IsText (lefs.lef units) bytes tokens l) → IfOk r (λ l. IsLef l)
+result_is_lef units bytes tokens (Ok l) size cut is =
+    is_lef (length bytes) l size ((gives_lef units).all (places bytes tokens) (End (last_line tokens) ∷ []) l (words_named bytes tokens cut) is) (few_of units bytes tokens l cut is)
+result_is_lef units bytes tokens (Err e) size cut is = tt

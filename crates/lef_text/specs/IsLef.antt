@@ -1,5 +1,5 @@
 -- What holds of each LEF that is read.
-use Rattle.std.specs.Prelude.{◌≡◌, ◌≢◌, ℕ, ◌<◌, ◌^◌, ◌+◌, ◌||◌, Bool, true, false, not, List, [], ◌∷◌, map, filter, length, All, AllPairs, ℤ, pos, ◌≤ℤ◌, bytes_eq, codes, nat_lt}
+use Rattle.std.specs.Prelude.{◌≡◌, ◌≢◌, ℕ, ◌<◌, ◌^◌, ◌+◌, ◌||◌, Bool, true, false, not, List, [], ◌∷◌, map, filter, length, All, AllPairs, ℤ, pos, ◌≤ℤ◌, bytes_eq, codes}
 use Rattle.rt_base.specs.Names.{IsName}
 use Rattle.rt_base.specs.Sides.{Sides}
 use Rattle.rt_base.specs.Tables.{IsTable}
@@ -58,10 +58,6 @@ pub record IsMacro (layers : ℕ) (m : Macro) : Type 0 where
   pub pins : All (IsPin layers) m.pins
   pub few_pins : length m.pins < 2 ^ 32
   pub obs : All (IsOn layers (2 ^ 31)) m.obs
-
--- the number of a macro's pins fits 32 bits
-abbrev pub has_few_pins : Macro → Bool
-has_few_pins m = nat_lt (length m.pins) (2 ^ 32)
 
 -- no two of these names are the same
 abbrev pub AreDistinct : List (List ℕ) → Type 0

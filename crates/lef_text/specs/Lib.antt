@@ -10,4 +10,5 @@ pub mod GeneratedVias
 pub mod Vias
 pub mod Shapes
 pub mod Macros
+pub mod Counts
 pub mod Lef

@@ -1,7 +1,8 @@
 -- MACRO of LEF (LEF/DEF 5.8 Language Reference, LEF MACRO).
-use Rattle.std.specs.Prelude.{ℕ, List, [], ◌∷◌, ◌++◌, map, pos, bytes_eq, codes}
+use Rattle.std.specs.Prelude.{ℕ, ◌^◌, All, List, [], ◌∷◌, ◌++◌, map, pos, bytes_eq, codes}
 use Rattle.rt_base.specs.Sides.{Sides}
 use Rattle.rt_base.specs.Geometry.{moved}
+use Rattle.rt_base.specs.Ranges.{IsPointWithin, AreSidesWithin}
 use Rattle.rt_base.specs.declared.geometry.Point.{Point}
 use Rattle.rt_base.specs.declared.tech.LayerNo.{LayerNo}
 use Rattle.rt_forms.specs.Lexeme.{Place}
@@ -143,6 +144,18 @@ moved_pin by p = (p.0, moved_shapes by p.1)
 
 abbrev pub moved_pins : Point → List (List ℕ × List (LayerNo × Sides)) → List (List ℕ × List (LayerNo × Sides))
 moved_pins by pins = map (moved_pin by) pins
+
+-- near enough to (0, 0) to be moved
+abbrev pub IsNearShape : LayerNo × Sides → Type 0
+IsNearShape s = AreSidesWithin (2 ^ 30) s.1
+
+abbrev pub IsNearPin : List ℕ × List (LayerNo × Sides) → Type 0
+IsNearPin p = All IsNearShape p.1
+
+pub record AreNear (m : MacroLines) : Type 0 where
+  pub origin : IsPointWithin (2 ^ 30) m.origin
+  pub pins : All IsNearPin m.pins
+  pub obs : All IsNearShape m.obs
 
 -- a macro, moved by its last ORIGIN
 abbrev pub macro_of : List ℕ → MacroLines → Macro

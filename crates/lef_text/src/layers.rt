@@ -1,9 +1,10 @@
 //! LAYER.
-ghost use Rattle.std.specs.Prelude.{◌≡◌, ◌++◌, ◌∷◌, [], Ok, IfOk, IfErr, OnOk};
+ghost use Rattle.std.specs.Prelude.{◌≡◌, ◌+◌, ◌<◌, ◌≤◌, ◌^◌, length, ◌++◌, ◌∷◌, [], Ok, IfOk, IfErr, OnOk};
 ghost use Rattle.rt_forms.specs.Clauses.{Reads, Gives};
 ghost use Rattle.rt_forms.specs.Form.{one, loop, More, Done, turn};
 ghost use Rattle.rt_forms.specs.Word.{place_of};
 ghost use Rattle.lef_text.specs.declared.error.LefError.TheVariants.{Memory as OutOfMemory};
+ghost use Rattle.lef_text.specs.Counts.{HasRoom, skips};
 ghost use Rattle.lef_text.specs.Faults.{lef_faults};
 ghost use Rattle.lef_text.specs.Layers.{new_name as new_name_form, layer_type as layer_type_form, direction_word, spacing_line as spacing_line_form, lack_of, crosses, whole_layer as whole_layer_form, end_of_layer as end_of_layer_form, layer_line as layer_line_form, dropped_line as dropped_line_form, layer_at_end, top_at_end, with_layer, with_dropped, used_layer as used_layer_form, dropped_layer as dropped_layer_form, layer_statement as layer_statement_form};
 
@@ -84,11 +85,14 @@ fn direction(alloc: Global, words: &mut Words) -> Result<bool, LefError>
 /// `SPACING v ;` behind its first word, or another form of it, which is counted.
 #[tactic(auto, unfolding(crate::specs::Layers::spacing_line))]
 fn spacing_line(words: &mut Words, units: u32, lines: &mut LayerLines) -> Result<(), LefError>
-    ensures { Reads lef_faults (λ _. More lines.new) result words.old words.new (spacing_line_form units lines.old) }
+    requires { lines.old.skipped + length words.old < 2 ^ 32 }
+    ensures reads { Reads lef_faults (λ _. More lines.new) result words.old words.new (spacing_line_form units lines.old) }
+    ensures few { OnOk result (lines.new.skipped + length words.new ≤ lines.old.skipped + length words.old) }
 {
     let value = words.next()?;
     if value.is(b";") {
-        return count_line(lines);
+        count_line(lines);
+        return Ok(());
     }
     if words.next()?.is(b";") {
         let n = length_at_least(value, units, 0)?;
@@ -96,7 +100,8 @@ fn spacing_line(words: &mut Words, units: u32, lines: &mut LayerLines) -> Result
         return Ok(());
     }
     words.rest()?;
-    count_line(lines)
+    count_line(lines);
+    Ok(())
 }
 
 /// What a routing layer lacks.
@@ -191,7 +196,9 @@ fn layer_line(
     top: &Option<(Name, bool)>,
     lines: &mut LayerLines,
 ) -> Result<bool, LefError>
-    ensures { Reads lef_faults (λ last. turn last lines.new) result words.old words.new (layer_line_form units top.now lines.old) }
+    requires { lines.old.skipped + length words.old ≤ 2 ^ 32 }
+    ensures reads { Reads lef_faults (λ last. turn last lines.new) result words.old words.new (layer_line_form units top.now lines.old) }
+    ensures few { OnOk result (lines.new.skipped + length words.new ≤ lines.old.skipped + length words.old) }
 {
     let word = words.next()?;
     match layer_line_of(word.bytes) {
@@ -229,7 +236,7 @@ fn layer_line(
                 return Err(LefError::Unknown { line: word.line });
             }
             words.rest()?;
-            count_line(lines)?;
+            count_line(lines);
             Ok(false)
         }
     }
@@ -243,7 +250,9 @@ fn layer_lines(
     top: &Option<(Name, bool)>,
     lines: &mut LayerLines,
 ) -> Result<(), LefError>
-    ensures { Reads lef_faults (λ _. lines.new) result words.old words.new (loop (layer_line_form units top.now) lines.old) }
+    requires { lines.old.skipped + length words.old ≤ 2 ^ 32 }
+    ensures reads { Reads lef_faults (λ _. lines.new) result words.old words.new (loop (layer_line_form units top.now) lines.old) }
+    ensures few { OnOk result (lines.new.skipped + length words.new ≤ lines.old.skipped + length words.old) }
 {
     'lines: while !layer_line(alloc, words, units, top, lines)? {}
     Ok(())
@@ -307,12 +316,11 @@ fn layer_at_end(lines: LayerLines) -> Layer
 
 /// Adds a routing or cut layer.
 fn add_layer(alloc: Global, lib: &mut Library, lines: LayerLines) -> Result<(), LefError>
+    requires { length lib.old.layers < 2 ^ 32 }
     ensures ok { OnOk result (lib.new ≡ with_layer lib.old lines) }
     ensures err { IfErr result (λ e. e ≡ OutOfMemory) }
 {
-    let Ok(number) = u32::try_from(lib.layers.len()) else {
-        return Err(LefError::Memory);
-    };
+    let number = lib.layers.len() as u32;
     let counted = Name::new(alloc, lines.name.bytes())?;
     let skipped = lines.skipped;
     raise_top(alloc, &mut lib.top, &lines)?;
@@ -332,7 +340,9 @@ fn used_layer(
     name: Word,
     routing: bool,
 ) -> Result<(), LefError>
-    ensures { Reads lef_faults (λ _. More lib.new) result words.old words.new (used_layer_form units lib.old name.entry.bytes.now routing) }
+    requires { HasRoom lib.old words.old }
+    ensures reads { Reads lef_faults (λ _. More lib.new) result words.old words.new (used_layer_form units lib.old name.entry.bytes.now routing) }
+    ensures few { OnOk result (skips lib.new words.new ≤ skips lib.old words.old) }
 {
     let mut lines = LayerLines {
         name: Name::new(alloc, name.bytes)?,
@@ -358,7 +368,8 @@ fn dropped_layer(
     lib: &mut Library,
     name: Word,
 ) -> Result<(), LefError>
-    ensures { Reads lef_faults (λ _. More lib.new) result words.old words.new (dropped_layer_form lib.old name.entry.bytes.now) }
+    ensures reads { Reads lef_faults (λ _. More lib.new) result words.old words.new (dropped_layer_form lib.old name.entry.bytes.now) }
+    ensures few { OnOk result (skips lib.new words.new ≤ skips lib.old words.old) }
 {
     dropped_lines(words, name.bytes)?;
     lib.dropped.push(Name::new(alloc, name.bytes)?)?;
@@ -375,7 +386,9 @@ pub fn layer_statement(
     units: u32,
     lib: &mut Library,
 ) -> Result<(), LefError>
-    ensures { Reads lef_faults (λ _. More lib.new) result words.old words.new (layer_statement_form units lib.old) }
+    requires { HasRoom lib.old words.old }
+    ensures reads { Reads lef_faults (λ _. More lib.new) result words.old words.new (layer_statement_form units lib.old) }
+    ensures few { OnOk result (skips lib.new words.new ≤ skips lib.old words.old) }
 {
     let name = new_name(alloc, words, &mut lib.layer_names)?;
     match layer_type(words)? {

@@ -1,12 +1,13 @@
 //! MACRO.
-ghost use Rattle.std.specs.Prelude.{◌≡◌, ◌^◌, IfOk, IfErr, IsTrue};
-ghost use Rattle.rt_base.specs.Ranges.{AreSidesWithin, IsPointWithin};
+ghost use Rattle.std.specs.Prelude.{◌≡◌, ◌≤◌, ◌^◌, All, IfOk, IfErr, OnOk};
+ghost use Rattle.rt_base.specs.Ranges.{IsPointWithin};
 ghost use Rattle.rt_forms.specs.Clauses.{Reads};
 ghost use Rattle.rt_forms.specs.Form.{loop, More, turn};
 ghost use Rattle.lef_text.specs.declared.error.LefError.TheVariants.{Memory as OutOfMemory};
+ghost use Rattle.lef_text.specs.Counts.{skips};
 ghost use Rattle.lef_text.specs.Faults.{lef_faults};
 ghost use Rattle.lef_text.specs.Shapes.{drawn};
-ghost use Rattle.lef_text.specs.Macros.{pin_line as pin_line_form, pin as pin_form, obs as obs_form, size as size_form, origin as origin_form, macro_line as macro_line_form, moved_shape, moved_shapes as moved_shapes_form, moved_pin, moved_pins as moved_pins_form, macro_of as macro_of_form, cell_of, macro_body as macro_body_form, macro_statement as macro_statement_form};
+ghost use Rattle.lef_text.specs.Macros.{pin_line as pin_line_form, pin as pin_form, obs as obs_form, size as size_form, origin as origin_form, macro_line as macro_line_form, IsNearShape, IsNearPin, AreNear, moved_shape, moved_shapes as moved_shapes_form, moved_pin, moved_pins as moved_pins_form, macro_of as macro_of_form, cell_of, macro_body as macro_body_form, macro_statement as macro_statement_form};
 
 use crate::error::LefError;
 use crate::layers::new_name;
@@ -29,7 +30,9 @@ fn pin_line(
     lib: &mut Library,
     shapes: &mut Seq<(LayerNo, Rect)>,
 ) -> Result<bool, LefError>
-    ensures { Reads lef_faults (λ last. turn last (drawn lib.new shapes.new)) result words.old words.new (pin_line_form units name.now (drawn lib.old shapes.old)) }
+    requires few { skips lib.old words.old ≤ 2 ^ 32 }
+    ensures reads { Reads lef_faults (λ last. turn last (drawn lib.new shapes.new)) result words.old words.new (pin_line_form units name.now (drawn lib.old shapes.old)) }
+    ensures few { OnOk result (skips lib.new words.new ≤ skips lib.old words.old) }
 {
     let word = words.next()?;
     if word.is(b"PORT") {
@@ -56,7 +59,9 @@ fn pin_lines(
     lib: &mut Library,
     shapes: &mut Seq<(LayerNo, Rect)>,
 ) -> Result<(), LefError>
-    ensures { Reads lef_faults (λ _. drawn lib.new shapes.new) result words.old words.new (loop (pin_line_form units name.now) (drawn lib.old shapes.old)) }
+    requires few { skips lib.old words.old ≤ 2 ^ 32 }
+    ensures reads { Reads lef_faults (λ _. drawn lib.new shapes.new) result words.old words.new (loop (pin_line_form units name.now) (drawn lib.old shapes.old)) }
+    ensures few { OnOk result (skips lib.new words.new ≤ skips lib.old words.old) }
 {
     'lines: while !pin_line(alloc, words, units, name, lib, shapes)? {}
     Ok(())
@@ -71,7 +76,9 @@ fn pin(
     lib: &mut Library,
     lines: &mut MacroLines,
 ) -> Result<(), LefError>
-    ensures { Reads lef_faults (λ _. More (cell_of lib.new lines.new)) result words.old words.new (pin_form units (cell_of lib.old lines.old)) }
+    requires few { skips lib.old words.old ≤ 2 ^ 32 }
+    ensures reads { Reads lef_faults (λ _. More (cell_of lib.new lines.new)) result words.old words.new (pin_form units (cell_of lib.old lines.old)) }
+    ensures few { OnOk result (skips lib.new words.new ≤ skips lib.old words.old) }
 {
     let name = new_name(alloc, words, &mut lines.pin_names)?;
     let mut shapes = Seq::new(alloc);
@@ -113,7 +120,9 @@ fn macro_line(
     lib: &mut Library,
     lines: &mut MacroLines,
 ) -> Result<bool, LefError>
-    ensures { Reads lef_faults (λ last. turn last (cell_of lib.new lines.new)) result words.old words.new (macro_line_form units name.now (cell_of lib.old lines.old)) }
+    requires few { skips lib.old words.old ≤ 2 ^ 32 }
+    ensures reads { Reads lef_faults (λ last. turn last (cell_of lib.new lines.new)) result words.old words.new (macro_line_form units name.now (cell_of lib.old lines.old)) }
+    ensures few { OnOk result (skips lib.new words.new ≤ skips lib.old words.old) }
 {
     let word = words.next()?;
     match macro_line_of(word.bytes) {
@@ -162,50 +171,21 @@ fn macro_lines(
     lib: &mut Library,
     lines: &mut MacroLines,
 ) -> Result<(), LefError>
-    ensures { Reads lef_faults (λ _. cell_of lib.new lines.new) result words.old words.new (loop (macro_line_form units name.now) (cell_of lib.old lines.old)) }
+    requires few { skips lib.old words.old ≤ 2 ^ 32 }
+    ensures reads { Reads lef_faults (λ _. cell_of lib.new lines.new) result words.old words.new (loop (macro_line_form units name.now) (cell_of lib.old lines.old)) }
+    ensures few { OnOk result (skips lib.new words.new ≤ skips lib.old words.old) }
 {
     'lines: while !macro_line(alloc, words, units, name, lib, lines)? {}
     Ok(())
 }
 
-/// No side of what is read is further from 0.
-const FAR: u64 = 1 << 61;
-
-/// Whether the sides of a rectangle can be moved.
-fn sides_fit(rect: &Rect) -> bool
-    ensures { IsTrue result → AreSidesWithin (2 ^ 61) rect.now }
+/// A shape moved by a point.
+fn moved_shape(shape: &(LayerNo, Rect), by: Point) -> (LayerNo, Rect)
+    requires shape { IsNearShape shape.now }
+    requires by { IsPointWithin (2 ^ 30) by }
+    ensures { result ≡ moved_shape by shape.now }
 {
-    if rect.xl.unsigned_abs() > FAR || rect.yl.unsigned_abs() > FAR {
-        return false;
-    }
-    if rect.xh.unsigned_abs() > FAR || rect.yh.unsigned_abs() > FAR {
-        return false;
-    }
-    true
-}
-
-/// Whether a rectangle can be moved by this point.
-fn point_fits(by: Point) -> bool
-    ensures { IsTrue result → IsPointWithin (2 ^ 61) by }
-{
-    if by.x.unsigned_abs() > FAR || by.y.unsigned_abs() > FAR {
-        return false;
-    }
-    true
-}
-
-/// A shape moved by a point. All that is read is near enough to 0.
-fn moved_shape(shape: &(LayerNo, Rect), by: Point) -> Result<(LayerNo, Rect), LefError>
-    ensures ok { IfOk result (λ s. s ≡ moved_shape by shape.now) }
-    ensures err { IfErr result (λ e. e ≡ OutOfMemory) }
-{
-    if !sides_fit(&shape.1) {
-        return Err(LefError::Memory);
-    }
-    if !point_fits(by) {
-        return Err(LefError::Memory);
-    }
-    Ok((shape.0, shape.1.moved(by)))
+    (shape.0, shape.1.moved(by))
 }
 
 /// Shapes moved by a point.
@@ -214,12 +194,14 @@ fn moved_shapes(
     shapes: &[(LayerNo, Rect)],
     by: Point,
 ) -> Result<Seq<(LayerNo, Rect)>, LefError>
+    requires shapes { All IsNearShape shapes.now }
+    requires by { IsPointWithin (2 ^ 30) by }
     ensures ok { IfOk result (λ s. s ≡ moved_shapes_form by shapes.now) }
     ensures err { IfErr result (λ e. e ≡ OutOfMemory) }
 {
     let mut all = Seq::new(alloc);
     for shape in shapes {
-        all.push(moved_shape(shape, by)?)?;
+        all.push(moved_shape(shape, by))?;
     }
     Ok(all)
 }
@@ -230,6 +212,8 @@ fn moved_pin(
     pin: &(Name, Seq<(LayerNo, Rect)>),
     by: Point,
 ) -> Result<(Name, Seq<(LayerNo, Rect)>), LefError>
+    requires pin { IsNearPin pin.now }
+    requires by { IsPointWithin (2 ^ 30) by }
     ensures ok { IfOk result (λ p. p ≡ moved_pin by pin.now) }
     ensures err { IfErr result (λ e. e ≡ OutOfMemory) }
 {
@@ -244,6 +228,8 @@ fn moved_pins(
     pins: &[(Name, Seq<(LayerNo, Rect)>)],
     by: Point,
 ) -> Result<Seq<(Name, Seq<(LayerNo, Rect)>)>, LefError>
+    requires pins { All IsNearPin pins.now }
+    requires by { IsPointWithin (2 ^ 30) by }
     ensures ok { IfOk result (λ p. p ≡ moved_pins_form by pins.now) }
     ensures err { IfErr result (λ e. e ≡ OutOfMemory) }
 {
@@ -256,6 +242,7 @@ fn moved_pins(
 
 /// The macro that these lines make.
 fn macro_of(alloc: Global, name: Word, lines: MacroLines) -> Result<Macro, LefError>
+    requires { AreNear lines }
     ensures ok { IfOk result (λ m. m ≡ macro_of_form name.entry.bytes.now lines) }
     ensures err { IfErr result (λ e. e ≡ OutOfMemory) }
 {
@@ -277,7 +264,9 @@ fn macro_body(
     lib: &mut Library,
     name: Word,
 ) -> Result<(), LefError>
-    ensures { Reads lef_faults (λ _. More lib.new) result words.old words.new (macro_body_form units lib.old name.entry.bytes.now) }
+    requires few { skips lib.old words.old ≤ 2 ^ 32 }
+    ensures reads { Reads lef_faults (λ _. More lib.new) result words.old words.new (macro_body_form units lib.old name.entry.bytes.now) }
+    ensures few { OnOk result (skips lib.new words.new ≤ skips lib.old words.old) }
 {
     let mut lines = MacroLines {
         size: Point { x: 0, y: 0 },
@@ -299,7 +288,9 @@ pub fn macro_statement(
     units: u32,
     lib: &mut Library,
 ) -> Result<(), LefError>
-    ensures { Reads lef_faults (λ _. More lib.new) result words.old words.new (macro_statement_form units lib.old) }
+    requires few { skips lib.old words.old ≤ 2 ^ 32 }
+    ensures reads { Reads lef_faults (λ _. More lib.new) result words.old words.new (macro_statement_form units lib.old) }
+    ensures few { OnOk result (skips lib.new words.new ≤ skips lib.old words.old) }
 {
     let name = new_name(alloc, words, &mut lib.macro_names)?;
     macro_body(alloc, words, units, lib, name)

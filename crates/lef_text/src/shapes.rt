@@ -1,8 +1,8 @@
 //! PORT and OBS.
-ghost use Rattle.std.specs.Prelude.{◌≡◌, IfErr, OnOk};
+ghost use Rattle.std.specs.Prelude.{◌≡◌, ◌+◌, ◌<◌, ◌≤◌, ◌^◌, OnOk};
 ghost use Rattle.rt_forms.specs.Clauses.{Reads};
 ghost use Rattle.rt_forms.specs.Form.{one, loop, More, turn};
-ghost use Rattle.lef_text.specs.declared.error.LefError.TheVariants.{Memory as OutOfMemory};
+ghost use Rattle.lef_text.specs.Counts.{skips, total_skipped};
 ghost use Rattle.lef_text.specs.Faults.{lef_faults};
 ghost use Rattle.lef_text.specs.Shapes.{counted_at, layer_place as layer_place_form, layer_words as layer_words_form, layer_rest as layer_rest_form, shape_layer as shape_layer_form, shape_line as shape_line_form, shapes_of, drawn, more_shapes as more_shapes_form};
 
@@ -17,19 +17,15 @@ use rt_base::{LayerNo, Name, Rect, Seq};
 use std::alloc::Global;
 
 /// Counts one more at this place.
-fn count_at(skipped: &mut Seq<(Name, u32)>, place: usize) -> Result<(), LefError>
-    ensures ok { OnOk result (skipped.new ≡ counted_at place skipped.old) }
-    ensures err { IfErr result (λ e. e ≡ OutOfMemory) }
+fn count_at(skipped: &mut Seq<(Name, u32)>, place: usize)
+    requires { total_skipped skipped.old + 1 < 2 ^ 32 }
+    ensures { skipped.new ≡ counted_at place skipped.old }
 {
     if place >= skipped.len() {
-        return Ok(());
+        return;
     }
     let entry = &mut skipped.items[place];
-    let Some(count) = entry.1.checked_add(1) else {
-        return Err(LefError::Memory);
-    };
-    entry.1 = count;
-    Ok(())
+    entry.1 += 1;
 }
 
 /// Takes the name of a layer before: its place among the layers that are named, and its number, None
@@ -78,13 +74,16 @@ fn layer_rest(
     lib: &mut Library,
     place: usize,
 ) -> Result<(), LefError>
-    ensures { Reads lef_faults (λ _. lib.new) result words.old words.new (layer_rest_form units lib.old place) }
+    requires few { skips lib.old words.old ≤ 2 ^ 32 }
+    ensures reads { Reads lef_faults (λ _. lib.new) result words.old words.new (layer_rest_form units lib.old place) }
+    ensures few { OnOk result (skips lib.new words.new ≤ skips lib.old words.old) }
 {
     let word = words.next()?;
     if word.is(b"SPACING") || word.is(b"DESIGNRULEWIDTH") {
         number(words, units)?;
         words.semicolon()?;
-        return count_at(&mut lib.skipped, place);
+        count_at(&mut lib.skipped, place);
+        return Ok(());
     }
     if !word.is(b";") {
         return Err(LefError::Expected { line: word.line });
@@ -101,7 +100,9 @@ fn shape_layer(
     layer: &mut Option<Option<LayerNo>>,
     shapes: &Seq<(LayerNo, Rect)>,
 ) -> Result<(), LefError>
-    ensures { Reads lef_faults (λ _. More (shapes_of lib.new layer.new shapes.now)) result words.old words.new (shape_layer_form units (shapes_of lib.old layer.old shapes.now)) }
+    requires few { skips lib.old words.old ≤ 2 ^ 32 }
+    ensures reads { Reads lef_faults (λ _. More (shapes_of lib.new layer.new shapes.now)) result words.old words.new (shape_layer_form units (shapes_of lib.old layer.old shapes.now)) }
+    ensures few { OnOk result (skips lib.new words.new ≤ skips lib.old words.old) }
 {
     let (place, number) = layer_words(alloc, words, lib)?;
     layer_rest(words, units, lib, place)?;
@@ -119,7 +120,9 @@ fn shape_line(
     layer: &mut Option<Option<LayerNo>>,
     shapes: &mut Seq<(LayerNo, Rect)>,
 ) -> Result<bool, LefError>
-    ensures { Reads lef_faults (λ last. turn last (shapes_of lib.new layer.new shapes.new)) result words.old words.new (shape_line_form units (shapes_of lib.old layer.old shapes.old)) }
+    requires few { skips lib.old words.old ≤ 2 ^ 32 }
+    ensures reads { Reads lef_faults (λ last. turn last (shapes_of lib.new layer.new shapes.new)) result words.old words.new (shape_line_form units (shapes_of lib.old layer.old shapes.old)) }
+    ensures few { OnOk result (skips lib.new words.new ≤ skips lib.old words.old) }
 {
     let word = words.next()?;
     match shape_line_of(word.bytes) {
@@ -170,7 +173,9 @@ fn shape_lines(
     layer: &mut Option<Option<LayerNo>>,
     shapes: &mut Seq<(LayerNo, Rect)>,
 ) -> Result<(), LefError>
-    ensures { Reads lef_faults (λ _. shapes_of lib.new layer.new shapes.new) result words.old words.new (loop (shape_line_form units) (shapes_of lib.old layer.old shapes.old)) }
+    requires few { skips lib.old words.old ≤ 2 ^ 32 }
+    ensures reads { Reads lef_faults (λ _. shapes_of lib.new layer.new shapes.new) result words.old words.new (loop (shape_line_form units) (shapes_of lib.old layer.old shapes.old)) }
+    ensures few { OnOk result (skips lib.new words.new ≤ skips lib.old words.old) }
 {
     'lines: while !shape_line(alloc, words, units, lib, layer, shapes)? {}
     Ok(())
@@ -185,7 +190,9 @@ pub fn more_shapes(
     lib: &mut Library,
     shapes: &mut Seq<(LayerNo, Rect)>,
 ) -> Result<(), LefError>
-    ensures { Reads lef_faults (λ _. drawn lib.new shapes.new) result words.old words.new (more_shapes_form units lib.old shapes.old) }
+    requires few { skips lib.old words.old ≤ 2 ^ 32 }
+    ensures reads { Reads lef_faults (λ _. drawn lib.new shapes.new) result words.old words.new (more_shapes_form units lib.old shapes.old) }
+    ensures few { OnOk result (skips lib.new words.new ≤ skips lib.old words.old) }
 {
     let mut layer = None;
     shape_lines(alloc, words, units, lib, &mut layer, shapes)

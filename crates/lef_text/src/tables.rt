@@ -1,9 +1,8 @@
 //! SPACINGTABLE and current densities.
-ghost use Rattle.std.specs.Prelude.{◌≡◌, IfErr, OnOk, IfOk};
+ghost use Rattle.std.specs.Prelude.{◌≡◌, ◌+◌, ◌<◌, ◌≤◌, ◌^◌, length, OnOk};
 ghost use Rattle.rt_forms.specs.Clauses.{Reads, Gives};
 ghost use Rattle.rt_forms.specs.Form.{one, loop, More, turn};
 ghost use Rattle.rt_forms.specs.Word.{place_of};
-ghost use Rattle.lef_text.specs.declared.error.LefError.TheVariants.{Memory as OutOfMemory};
 ghost use Rattle.lef_text.specs.Faults.{lef_faults};
 ghost use Rattle.lef_text.specs.Tables.{counted, greatest as greatest_form, next_above as next_above_form, length_turn as length_turn_form, spacing_turn as spacing_turn_form, row_end as row_end_form, row_turn as row_turn_form, first_entry as first_entry_form, only_table as only_table_form, with_table as with_table_form, run_table as run_table_form, table_line as table_line_form, is_numeral, density_line as density_line_form};
 
@@ -16,17 +15,11 @@ use rt_words::{NumberFault, decimal};
 use std::alloc::Global;
 
 /// Counts a line.
-pub fn count_line(lines: &mut LayerLines) -> Result<(), LefError>
-    ensures ok { OnOk result (More lines.new ≡ counted lines.old) }
-    ensures err { IfErr result (λ e. e ≡ OutOfMemory) }
+pub fn count_line(lines: &mut LayerLines)
+    requires { lines.old.skipped + 1 < 2 ^ 32 }
+    ensures { More lines.new ≡ counted lines.old }
 {
-    match lines.skipped.checked_add(1) {
-        Some(skipped) => {
-            lines.skipped = skipped;
-            Ok(())
-        }
-        None => Err(LefError::Memory),
-    }
+    lines.skipped += 1;
 }
 
 pub fn greatest(spacing: Option<i64>, n: i64) -> i64
@@ -189,21 +182,13 @@ fn only_table(alloc: Global, word: Word, lines: &LayerLines) -> Result<(), LefEr
 }
 
 /// Keeps a table, whose first entry is one more spacing, and counts it.
-fn keep_table(
-    lines: &mut LayerLines,
-    lengths: Seq<i64>,
-    rows: Seq<(i64, Seq<i64>)>,
-) -> Result<(), LefError>
-    ensures ok { OnOk result (lines.new ≡ with_table_form lines.old lengths rows) }
-    ensures err { IfErr result (λ e. e ≡ OutOfMemory) }
+fn keep_table(lines: &mut LayerLines, lengths: Seq<i64>, rows: Seq<(i64, Seq<i64>)>)
+    requires { lines.old.skipped + 1 < 2 ^ 32 }
+    ensures { lines.new ≡ with_table_form lines.old lengths rows }
 {
-    let Some(skipped) = lines.skipped.checked_add(1) else {
-        return Err(LefError::Memory);
-    };
-    lines.skipped = skipped;
+    lines.skipped += 1;
     lines.spacing = Some(greatest(lines.spacing, first_entry(&rows)));
     lines.table = SpacingTable { lengths, rows };
-    Ok(())
 }
 
 /// A table behind PARALLELRUNLENGTH.
@@ -215,7 +200,9 @@ fn run_table(
     lines: &mut LayerLines,
     word: Word,
 ) -> Result<(), LefError>
-    ensures { Reads lef_faults (λ _. More lines.new) result words.old words.new (run_table_form units lines.old (place_of word.entry)) }
+    requires { lines.old.skipped + length words.old ≤ 2 ^ 32 }
+    ensures reads { Reads lef_faults (λ _. More lines.new) result words.old words.new (run_table_form units lines.old (place_of word.entry)) }
+    ensures few { OnOk result (lines.new.skipped + length words.new ≤ lines.old.skipped + length words.old) }
 {
     only_table(alloc, word, lines)?;
     let first = number(words, units)?;
@@ -230,7 +217,8 @@ fn run_table(
         last: None,
     };
     row_turns(alloc, words, units, lengths.numbers.len(), &mut rows)?;
-    keep_table(lines, lengths.numbers, rows.rows)
+    keep_table(lines, lengths.numbers, rows.rows);
+    Ok(())
 }
 
 /// A table behind SPACINGTABLE, or another form of it, which is counted.
@@ -241,17 +229,21 @@ pub fn table_line(
     units: u32,
     lines: &mut LayerLines,
 ) -> Result<(), LefError>
-    ensures { Reads lef_faults (λ _. More lines.new) result words.old words.new (table_line_form units lines.old) }
+    requires { lines.old.skipped + length words.old < 2 ^ 32 }
+    ensures reads { Reads lef_faults (λ _. More lines.new) result words.old words.new (table_line_form units lines.old) }
+    ensures few { OnOk result (lines.new.skipped + length words.new ≤ lines.old.skipped + length words.old) }
 {
     let word = words.next()?;
     if word.is(b"PARALLELRUNLENGTH") {
         return run_table(alloc, words, units, lines, word);
     }
     if word.is(b";") {
-        return count_line(lines);
+        count_line(lines);
+        return Ok(());
     }
     words.rest()?;
-    count_line(lines)
+    count_line(lines);
+    Ok(())
 }
 
 /// Whether a word is a number by its form alone.
@@ -271,17 +263,21 @@ fn is_numeral(word: Word) -> bool
 /// A current density behind its first word, which is counted.
 #[tactic(auto, unfolding(crate::specs::Tables::density_line))]
 pub fn density_line(words: &mut Words, lines: &mut LayerLines) -> Result<(), LefError>
-    ensures { Reads lef_faults (λ _. More lines.new) result words.old words.new (density_line_form lines.old) }
+    requires { lines.old.skipped + length words.old < 2 ^ 32 }
+    ensures reads { Reads lef_faults (λ _. More lines.new) result words.old words.new (density_line_form lines.old) }
+    ensures few { OnOk result (lines.new.skipped + length words.new ≤ lines.old.skipped + length words.old) }
 {
     words.name()?;
     let word = words.next()?;
     if is_numeral(word) {
         words.semicolon()?;
-        return count_line(lines);
+        count_line(lines);
+        return Ok(());
     }
     if !word.is(b"TABLEENTRIES") {
         words.up_to(b"TABLEENTRIES")?;
     }
     words.rest()?;
-    count_line(lines)
+    count_line(lines);
+    Ok(())
 }

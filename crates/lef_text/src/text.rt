@@ -1,8 +1,9 @@
 //! The statements of a LEF text.
-ghost use Rattle.std.specs.Prelude.{◌≡◌, ◌+◌, IfOk, IfErr, OnOk};
+ghost use Rattle.std.specs.Prelude.{◌≡◌, ◌+◌, ◌<◌, ◌≤◌, ◌^◌, length, IfOk, IfErr, OnOk};
 ghost use Rattle.rt_forms.specs.Clauses.{Reads, Looks};
 ghost use Rattle.rt_forms.specs.Form.{loop, text as text_form, More, turn};
 ghost use Rattle.lef_text.specs.declared.error.LefError.TheVariants.{Memory as OutOfMemory};
+ghost use Rattle.lef_text.specs.Counts.{HasRoom, skips};
 ghost use Rattle.lef_text.specs.Faults.{lef_faults};
 ghost use Rattle.lef_text.specs.Lef.{units_line as units_line_form, named_section as named_section_form, statement as statement_form, lef_of, lef as lef_form, empty};
 
@@ -59,17 +60,11 @@ fn named_section(words: &mut Words) -> Result<(), LefError>
 }
 
 /// Counts a section that isn't used.
-fn count_section(lib: &mut Library) -> Result<(), LefError>
-    ensures ok { OnOk result (lib.new ≡ record lib.old { sections = lib.old.sections + 1 }) }
-    ensures err { IfErr result (λ e. e ≡ OutOfMemory) }
+fn count_section(lib: &mut Library)
+    requires { lib.old.sections + 1 < 2 ^ 32 }
+    ensures { lib.new ≡ record lib.old { sections = lib.old.sections + 1 } }
 {
-    match lib.sections.checked_add(1) {
-        Some(sections) => {
-            lib.sections = sections;
-            Ok(())
-        }
-        None => Err(LefError::Memory),
-    }
+    lib.sections += 1;
 }
 
 /// A statement. True where it was the last.
@@ -80,7 +75,10 @@ fn statement(
     units: u32,
     lib: &mut Library,
 ) -> Result<bool, LefError>
-    ensures { Reads lef_faults (λ last. turn last lib.new) result words.old words.new (statement_form units lib.old) }
+    requires room { HasRoom lib.old words.old }
+    requires few { skips lib.old words.old ≤ 2 ^ 32 }
+    ensures reads { Reads lef_faults (λ last. turn last lib.new) result words.old words.new (statement_form units lib.old) }
+    ensures few { OnOk result (skips lib.new words.new ≤ skips lib.old words.old) }
 {
     let word = words.next()?;
     match statement_of(word.bytes) {
@@ -110,7 +108,7 @@ fn statement(
         }
         Statement::Rule => {
             named_section(words)?;
-            count_section(lib)?;
+            count_section(lib);
             Ok(false)
         }
         Statement::Layer => {
@@ -140,6 +138,8 @@ fn statements(
     units: u32,
     lib: &mut Library,
 ) -> Result<(), LefError>
+    requires room { HasRoom lib.old words.old }
+    requires few { skips lib.old words.old ≤ 2 ^ 32 }
     ensures { Looks lef_faults (λ _. lib.new) result words.old words.new (text_form (statement_form units) lib.old) }
 {
     'text: while !words.is_empty() {
@@ -190,6 +190,7 @@ fn lef_of(alloc: Global, lib: Library) -> Result<Lef, LefError>
 /// The whole text.
 #[tactic(auto, unfolding(crate::specs::Lef::lef))]
 pub fn lef(alloc: Global, words: &mut Words, units: u32) -> Result<Lef, LefError>
+    requires { length words.old ≤ 2 ^ 32 }
     ensures { Looks lef_faults (λ x. x) result words.old words.new (lef_form units) }
 {
     let mut lib = empty(alloc);

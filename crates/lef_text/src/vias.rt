@@ -1,8 +1,9 @@
 //! VIA.
-ghost use Rattle.std.specs.Prelude.{◌≡◌, ◌++◌, ◌∷◌, [], IfOk};
+ghost use Rattle.std.specs.Prelude.{◌≡◌, ◌≤◌, ◌++◌, ◌∷◌, [], IfOk, OnOk};
 ghost use Rattle.rt_forms.specs.Clauses.{Reads, Looks};
 ghost use Rattle.rt_forms.specs.Form.{one, loop, More, turn};
 ghost use Rattle.rt_forms.specs.Word.{place_of};
+ghost use Rattle.lef_text.specs.Counts.{skips};
 ghost use Rattle.lef_text.specs.Faults.{lef_faults};
 ghost use Rattle.lef_text.specs.IsLef.{is_path_word};
 ghost use Rattle.lef_text.specs.Vias.{via_line as via_line_form, no_via_lines, via_rects as via_rects_form, via_name as via_name_form, optional as optional_form, via_statement as via_statement_form};
@@ -184,7 +185,8 @@ pub fn via_statement(
     units: u32,
     lib: &mut Library,
 ) -> Result<(), LefError>
-    ensures { Reads lef_faults (λ _. More lib.new) result words.old words.new (via_statement_form units lib.old) }
+    ensures reads { Reads lef_faults (λ _. More lib.new) result words.old words.new (via_statement_form units lib.old) }
+    ensures few { OnOk result (skips lib.new words.new ≤ skips lib.old words.old) }
 {
     let name = via_name(alloc, words, &mut lib.via_names)?;
     let usable = optional(words, b"DEFAULT")?;

@@ -15,7 +15,7 @@ use Rattle.pin_access.specs.declared.bands.Band.{Band}
 use Rattle.track_graph.specs.Levels.{IsAscending}
 use Rattle.pin_access.specs.Bands.{IsIn, IsBand, IsNearBand, IsNearBands, beyond}
 use Rattle.pin_access.specs.Counts.{Counts}
-use Rattle.pin_access.proofs.Counting.{counts_same, counts_both, counts_image}
+use Rattle.pin_access.proofs.HowMany.{counts_same, counts_both, counts_image}
 use Rattle.pin_access.proofs.Members.{contains_here}
 use Rattle.std.specs.Int.{int_min, int_max}
 use Rattle.std.proofs.lemmas.Bool.{cases_lt}

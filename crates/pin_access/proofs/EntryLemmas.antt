@@ -85,7 +85,7 @@ stubs_of_all g pin rects n found e all exact = (λ h. (exact.0 h).0, λ h. exact
 stub_below : (g : TrackSystem) (pin : ℕ) (rects : List Metal) (k : ℕ) (m : Metal) (v : Vertex) → slice_get rects k ≡ Some m → IsNearMetal g 2 m v → IsStubBelow g pin rects (k + 1) (stub_entry pin k v)
 stub_below g pin rects k m v at h = (record { k = k; metal = m; kind = refl; is_metal = at; on_layer = h.on_layer; vertex = h.vertex; near = h.near }, omega arith)
 
-entry_is : (e : Entry) (kind : EntryKind) → e.kind ≡ kind → ◌≡◌ {A = Entry} (record { vertex = e.vertex; kind = kind }) e
+pub entry_is : (e : Entry) (kind : EntryKind) → e.kind ≡ kind → ◌≡◌ {A = Entry} (record { vertex = e.vertex; kind = kind }) e
 entry_is e kind is = ap (λ (k : EntryKind). let f : Entry = record { vertex = e.vertex; kind = k } in f) (sym is)
 
 -- the stubs of one rectangle more
@@ -158,7 +158,7 @@ IsInside g rects v = Any (λ (r : Metal). (r.0.0 ≡ layer_no g.tech v.level) ×
 inside_from_near : (g : TrackSystem) (rects : List Metal) (v : Vertex) → All (λ (m : Metal). IsRect m.1) rects → Any (λ (m : Metal). IsNearMetal g 0 m v) rects → IsVertex g v × IsInside g rects v
 inside_from_near g rects v ordered h = (h.4.vertex, (h.0, h.1, h.2, h.3, (h.4.on_layer, near_inside h.1.1 v.point (subst (λ (m : Metal). IsRect m.1) h.3 (ordered h.0 h.1 h.2)) (omega (arith, h.4.near)))))
 
-near_from_inside : (g : TrackSystem) (rects : List Metal) (v : Vertex) → IsVertex g v → IsInside g rects v → Any (λ (m : Metal). IsNearMetal g 0 m v) rects
+pub near_from_inside : (g : TrackSystem) (rects : List Metal) (v : Vertex) → IsVertex g v → IsInside g rects v → Any (λ (m : Metal). IsNearMetal g 0 m v) rects
 near_from_inside g rects v is h = (h.0, h.1, h.2, h.3, record { vertex = is; on_layer = h.4.0; near = omega (arith, inside_near h.1.1 v.point h.4.1) })
 
 -- what the vertices inside a pin's rectangles are

@@ -4,7 +4,8 @@ pub mod OrderLemmas
 pub mod LevelLemmas
 pub mod Ascending
 pub mod Banding
-pub mod Counting
+pub mod HowMany
 pub mod Sweeping
+pub mod CountLemmas
 pub mod DieLemmas
 pub mod EntryLemmas

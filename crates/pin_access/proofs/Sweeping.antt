@@ -13,7 +13,7 @@ use Rattle.rt_base.specs.declared.geometry.Span.{Span}
 use Rattle.track_graph.specs.Levels.{IsAscending}
 use Rattle.pin_access.specs.Bands.{IsIn}
 use Rattle.pin_access.specs.Counts.{Counts}
-use Rattle.pin_access.proofs.Counting.{counts_none, counts_same, counts_both, counts_within, counts_list}
+use Rattle.pin_access.proofs.HowMany.{counts_none, counts_same, counts_both, counts_within, counts_list}
 
 -- some element of a list with one more
 pub any_push : {X : Type 0} → (P : X → Type 0) (xs : List X) (x : X) → Any P (xs ++ x ∷ []) ↔ (Any P xs ⊎ P x)

@@ -1,5 +1,5 @@
 -- The tracks of each level in the die, and what is near rectangles on them.
-use Rattle.std.specs.Prelude.{◌≡◌, ◌↔◌, ℕ, ◌*◌, ◌^◌, ◌≤◌, ℤ, List, length, slice_get, Some, Contains, All, Any}
+use Rattle.std.specs.Prelude.{◌≡◌, ◌↔◌, ℕ, ◌*◌, ◌^◌, ◌≤◌, ℤ, List, [], ◌∷◌, length, slice_get, Some, Contains, All, Any}
 use Rattle.rt_base.specs.declared.walk.Vertex.{Vertex}
 use Rattle.track_graph.specs.Levels.{TrackSystem, IsVertex, IsAscending, levels, layer_no, is_horizontal, line_of, along}
 use Rattle.track_graph.specs.Metal.{Metal}
@@ -42,8 +42,14 @@ pub record IsNearLevel (l : DieLevel) (reach : ℕ) (rects : List Metal) (p : �
   pub position : Contains l.positions p.1
   pub near : Any (IsNearOn l reach p.0 p.1) rects
 
+-- the number of an element of a list, and something of that element
+abbrev pub IsOf : {X Y : Type 0} → List X → (X → Y → Type 0) → ℕ × Y → Type 0
+IsOf {X} xs P t = (x : X) × (slice_get xs t.0 ≡ Some x) × P x t.1
+
 -- a level, a line and a position of it, at most so many of the level's largest steps from one of these rectangles
-pub record IsNearSome (ls : List DieLevel) (steps : ℕ) (rects : List Metal) (t : ℕ × (ℤ × ℤ)) : Type 0 where
-  pub level : DieLevel
-  pub at : slice_get ls t.0 ≡ Some level
-  pub near : IsNearLevel level (steps * level.step) rects t.1
+abbrev pub IsNearSome : List DieLevel → ℕ → List Metal → ℕ × (ℤ × ℤ) → Type 0
+IsNearSome ls steps rects = IsOf ls (λ (l : DieLevel). IsNearLevel l (steps * l.step) rects)
+
+-- the number of a rectangle, and a level, a line and a position at most twice the level's largest step from it
+abbrev pub IsNearOne : List DieLevel → List Metal → ℕ × (ℕ × (ℤ × ℤ)) → Type 0
+IsNearOne ls rects = IsOf rects (λ (m : Metal). IsNearSome ls 2 (m ∷ []))

@@ -3,7 +3,10 @@
 
 mod area;
 mod bands;
+mod counting;
 mod die_tracks;
 mod listing;
 
+pub use counting::count_entries;
+pub use die_tracks::{DieTracks, ascend};
 pub use listing::entries;

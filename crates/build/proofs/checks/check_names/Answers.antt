@@ -49,6 +49,6 @@ unfolding name_fault
 returns c =
     let i = input_by c.args.given.now in (
       all_none (unit_fault i ∷ vias_part i ∷ placed_fault i ∷ wired_fault i ∷ level_and_guide_fault i ∷ [])
-      (c.in_ok-check_units.ensures, (c.in_ok-on.ensures.0, (c.in_ok-check_placed.ensures, (c.in_ok-metal.ensures.0, (c.in_ok-check_levels_and_guides.ensures, tt))))),
+          (c.in_ok-check_units.ensures, (c.in_ok-on.ensures.0, (c.in_ok-check_placed.ensures, (c.in_ok-metal.ensures.0, (c.in_ok-check_levels_and_guides.ensures, tt))))),
       (c.in_ok-on.ensures.1, c.in_ok-metal.ensures.1),
     )

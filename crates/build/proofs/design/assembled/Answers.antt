@@ -9,6 +9,17 @@ use Rattle.build.specs.Standing.{Stands}
 use Rattle.build.proofs.Assembling.{AreBuilt, IsAssembled, ground_is, grid_is, built_through, nets_through, sizes_through, too_large, refused, assembled_gives, assembled_fits}
 use Rattle.build.proofs.design.assembled.Goals as goal
 
+pub count_all-entries-requires : goal.count_all-entries-requires
+count_all-entries-requires c =
+    let i = input_by c.args.given.now in
+    let options = c.args.options in
+    let known = c.args.known.now in
+    let tech : Tech = record { layers = c.args.tech.layers; vias = c.args.tech.vias } in
+    let tracks = c.in_ok-tracks.tracks in
+    let stands : Stands (input_by c.args.given.now) c.args.options c.args.known.now c.args.index.now tech = c.requires.stands in
+    let built : AreBuilt c.args.given.now.def.now tech c.in_ok-tracks.tracks = built_through i.def tech tracks c.as_slice-2.result.now c.as_slice.result.now c.as_slice-2.ensures c.as_slice.ensures c.in_ok-tracks.ensures.lines c.in_ok-tracks.ensures.steps in
+    ground_is i options known c.args.index.now tech tracks stands built
+
 pub nets-requires : goal.nets-requires
 nets-requires c =
     let i = input_by c.args.given.now in
@@ -16,7 +27,7 @@ nets-requires c =
     let known = c.args.known.now in
     let tech : Tech = record { layers = c.args.tech.layers; vias = c.args.tech.vias } in
     let tracks = c.in_ok-tracks.tracks in
-    let stands : Stands i options known c.args.index.now tech = c.requires.stands in
+    let stands : Stands (input_by c.args.given.now) c.args.options c.args.known.now c.args.index.now tech = c.requires.stands in
     let built : AreBuilt c.args.given.now.def.now tech c.in_ok-tracks.tracks = built_through i.def tech tracks c.as_slice-2.result.now c.as_slice.result.now c.as_slice-2.ensures c.as_slice.ensures c.in_ok-tracks.ensures.lines c.in_ok-tracks.ensures.steps in
     record {
       ground = ground_is i options known c.args.index.now tech tracks stands built;
@@ -30,14 +41,11 @@ returns-in_err-check_sizes-clause-refusal c =
     let known = c.args.known.now in
     let tech : Tech = record { layers = c.args.tech.layers; vias = c.args.tech.vias } in
     let tracks = c.in_ok-tracks.tracks in
-    let stands : Stands i options known c.args.index.now tech = c.requires.stands in
+    let stands : Stands (input_by c.args.given.now) c.args.options c.args.known.now c.args.index.now tech = c.requires.stands in
     let built : AreBuilt c.args.given.now.def.now tech c.in_ok-tracks.tracks = built_through i.def tech tracks c.as_slice-2.result.now c.as_slice.result.now c.as_slice-2.ensures c.as_slice.ensures c.in_ok-tracks.ensures.lines c.in_ok-tracks.ensures.steps in
-    let nets = c.in_ok-nets.nets in
-    let g = system_of tech tracks i.def.die in
-    let nets_are = nets_through i g c.as_slice-3.result.now nets c.as_slice-3.ensures c.in_ok-nets.ensures in
-    let sizes = sizes_through i options _ c.deref.result.now c.as_slice-4.result.now nets (grid_is i.def options c.requires.stands.asked.chosen.least c.requires.stands.asked.chosen.most) (c.deref.ensures.value ∙ c.requires.shapes) c.as_slice-4.ensures in
+    let sizes = sizes_through i options _ c.deref.result.now c.in_ok-entries.entries (grid_is i.def options c.requires.stands.asked.chosen.least c.requires.stands.asked.chosen.most) (c.deref.ensures.value ∙ c.requires.shapes) in
     refused i options c.from_residual-in_err-check_sizes.result c.in_err-check_sizes.field-0.0 c.from_residual-in_err-check_sizes.ensures.1
-    (λ other. too_large i options known c.args.index.now tech tracks nets c.in_err-check_sizes.field-0.0 stands built nets_are (sym sizes ∙ c.in_err-check_sizes.ensures other))
+    (λ other. too_large i options known c.args.index.now tech tracks c.in_ok-entries.entries c.in_err-check_sizes.field-0.0 stands built c.in_ok-entries.ensures (sym sizes ∙ c.in_err-check_sizes.ensures other))
 
 pub returns-clause-design : goal.returns-clause-design
 returns-clause-design c =
@@ -46,12 +54,12 @@ returns-clause-design c =
     let known = c.args.known.now in
     let tech : Tech = record { layers = c.args.tech.layers; vias = c.args.tech.vias } in
     let tracks = c.in_ok-tracks.tracks in
-    let stands : Stands i options known c.args.index.now tech = c.requires.stands in
+    let stands : Stands (input_by c.args.given.now) c.args.options c.args.known.now c.args.index.now tech = c.requires.stands in
     let built : AreBuilt c.args.given.now.def.now tech c.in_ok-tracks.tracks = built_through i.def tech tracks c.as_slice-2.result.now c.as_slice.result.now c.as_slice-2.ensures c.as_slice.ensures c.in_ok-tracks.ensures.lines c.in_ok-tracks.ensures.steps in
     let nets = c.in_ok-nets.nets in
     let g = system_of tech tracks i.def.die in
     let nets_are = nets_through i g c.as_slice-3.result.now nets c.as_slice-3.ensures c.in_ok-nets.ensures in
-    let sizes = sizes_through i options _ c.deref.result.now c.as_slice-4.result.now nets (grid_is i.def options c.requires.stands.asked.chosen.least c.requires.stands.asked.chosen.most) (c.deref.ensures.value ∙ c.requires.shapes) c.as_slice-4.ensures in
+    let sizes = sizes_through i options _ c.deref.result.now c.in_ok-entries.entries (grid_is i.def options c.requires.stands.asked.chosen.least c.requires.stands.asked.chosen.most) (c.deref.ensures.value ∙ c.requires.shapes) in
     let d : Design = record { tech = tech; tracks = tracks; grid = record { die = c.args.given.now.def.now.die; tile = to_z w64 (of_z w64 c.args.options.tile) }; nets = nets; fixed = c.from_vec.result; options = c.args.options; skipped = c.in_ok-skipped.skipped } in
     let assembled : IsAssembled (input_by c.args.given.now) c.args.options c.args.known.now c.args.index.now d = record {
       stands = stands;
@@ -61,7 +69,9 @@ returns-clause-design c =
       fixed = c.from_vec.ensures ∙ c.requires.shapes;
       chosen = refl;
       skipped = c.in_ok-skipped.ensures;
-      sizes = sym sizes ∙ c.in_ok-check_sizes.ensures;
+      entries = c.in_ok-entries.entries;
+      entries_of = c.in_ok-entries.ensures;
+      sizes_of = sym sizes ∙ c.in_ok-check_sizes.ensures;
     } in
     assembled_gives i options known c.args.index.now d assembled
 
@@ -72,12 +82,12 @@ returns-clause-fits c =
     let known = c.args.known.now in
     let tech : Tech = record { layers = c.args.tech.layers; vias = c.args.tech.vias } in
     let tracks = c.in_ok-tracks.tracks in
-    let stands : Stands i options known c.args.index.now tech = c.requires.stands in
+    let stands : Stands (input_by c.args.given.now) c.args.options c.args.known.now c.args.index.now tech = c.requires.stands in
     let built : AreBuilt c.args.given.now.def.now tech c.in_ok-tracks.tracks = built_through i.def tech tracks c.as_slice-2.result.now c.as_slice.result.now c.as_slice-2.ensures c.as_slice.ensures c.in_ok-tracks.ensures.lines c.in_ok-tracks.ensures.steps in
     let nets = c.in_ok-nets.nets in
     let g = system_of tech tracks i.def.die in
     let nets_are = nets_through i g c.as_slice-3.result.now nets c.as_slice-3.ensures c.in_ok-nets.ensures in
-    let sizes = sizes_through i options _ c.deref.result.now c.as_slice-4.result.now nets (grid_is i.def options c.requires.stands.asked.chosen.least c.requires.stands.asked.chosen.most) (c.deref.ensures.value ∙ c.requires.shapes) c.as_slice-4.ensures in
+    let sizes = sizes_through i options _ c.deref.result.now c.in_ok-entries.entries (grid_is i.def options c.requires.stands.asked.chosen.least c.requires.stands.asked.chosen.most) (c.deref.ensures.value ∙ c.requires.shapes) in
     let d : Design = record { tech = tech; tracks = tracks; grid = record { die = c.args.given.now.def.now.die; tile = to_z w64 (of_z w64 c.args.options.tile) }; nets = nets; fixed = c.from_vec.result; options = c.args.options; skipped = c.in_ok-skipped.skipped } in
     let assembled : IsAssembled (input_by c.args.given.now) c.args.options c.args.known.now c.args.index.now d = record {
       stands = stands;
@@ -87,6 +97,8 @@ returns-clause-fits c =
       fixed = c.from_vec.ensures ∙ c.requires.shapes;
       chosen = refl;
       skipped = c.in_ok-skipped.ensures;
-      sizes = sym sizes ∙ c.in_ok-check_sizes.ensures;
+      entries = c.in_ok-entries.entries;
+      entries_of = c.in_ok-entries.ensures;
+      sizes_of = sym sizes ∙ c.in_ok-check_sizes.ensures;
     } in
     assembled_fits i options known c.args.index.now d assembled

@@ -1,11 +1,11 @@
-use Rattle.std.proofs.Common.{◌<◌, arith}
-use Rattle.std.proofs.lemmas.Int.{ints}
-use Rattle.rt_base.specs.Tiles.{side_of}
-use Rattle.build.proofs.TileLemmas.{tiles_fit}
+use Rattle.std.proofs.Common.{◌*◌, ◌<◌, ◌≤◌, ◌^◌, ◌-◌, ℕ, Fits, w128, arith}
+use Rattle.std.proofs.Math.Nat.{mul-le-mul}
 use Rattle.build.proofs.limits.check_sizes.Goals as goal
 
-pub overflow_mul-columns : goal.overflow_mul-columns
-overflow_mul-columns c =
-    let g = c.args.grid.now in
-    let some : 0 < side_of c.args.grid.now = omega (arith, ints, c.requires.least) in
-    rw (c.columns.ensures, c.rows.ensures) (tiles_fit g some c.requires.die)
+product_fits : (a b : ℕ) → a < 2 ^ 64 → b < 2 ^ 64 → Fits w128 (a * b)
+product_fits a b la lb =
+    let most : a * b ≤ (2 ^ 64 - 1) * (2 ^ 64 - 1) = mul-le-mul {a} {b} {2 ^ 64 - 1} {2 ^ 64 - 1} (omega arith) (omega arith) in
+    omega (arith, most)
+
+pub overflow_mul-tiles : goal.overflow_mul-tiles
+overflow_mul-tiles c = ?

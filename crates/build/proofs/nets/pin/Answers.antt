@@ -1,21 +1,12 @@
 use Rattle.std.proofs.Common.{◌≡◌, ◌∙◌, ◌↔◌, ◌^◌, ◌<◌, ℕ, List, length, All, AllPairs, Contains, sym, ap, subst, arith}
 use Rattle.rt_base.specs.declared.walk.Entry.{Entry}
-use Rattle.track_graph.specs.Designs.{IsMetal}
 use Rattle.track_graph.specs.Entries.{IsEntry}
 use Rattle.track_graph.specs.Metal.{Metal}
 use Rattle.pin_access.specs.EntryOrder.{IsEntryBefore}
-use Rattle.build.specs.declared.nets.Ground.{Ground}
 use Rattle.build.specs.Ground.{IsGround, input_on, system_on}
 use Rattle.build.specs.LookUps.{connected_rects}
-use Rattle.build.proofs.MetalLemmas.{connected_metal}
-use Rattle.build.proofs.WireLemmas.{rects_few}
+use Rattle.build.proofs.PinRects.{are_metal, are_few, are_pin_metal}
 use Rattle.build.proofs.nets.pin.Goals as goal
-
-are_metal : (on : Ground) (c : List ℕ × List ℕ) (rects : List Metal) → IsGround on → rects ≡ connected_rects (input_on on).lef (input_on on).def c → All (IsMetal on.tech.now) rects
-are_metal on c rects g is = subst (λ (ms : List Metal). All (IsMetal on.tech.now) ms) (sym is) (connected_metal (input_on on).lef (input_on on).def on.tech.now c g.is_input.is_lef g.is_input.is_def g.same_layers)
-
-are_few : (on : Ground) (c : List ℕ × List ℕ) (rects : List Metal) → IsGround on → rects ≡ connected_rects (input_on on).lef (input_on on).def c → length rects < 2 ^ 32
-are_few on c rects g is = omega (arith, ap length is, rects_few (input_on on) c, g.few_shapes)
 
 pub entries-requires : goal.entries-requires
 entries-requires c =
@@ -24,7 +15,7 @@ entries-requires c =
     record {
       tech = c.requires.is_tech;
       tracks = c.requires.are_tracks;
-      rects = are_metal on c.args.connection.now c.deref.result.now c.requires is;
+      rects = are_pin_metal on.tech.now c.deref.result.now (are_metal on c.args.connection.now c.deref.result.now c.requires is);
       count = are_few on c.args.connection.now c.deref.result.now c.requires is;
     }
 

@@ -1,11 +1,12 @@
+use Rattle.std.proofs.Common.{arith}
 use Rattle.rt_forms.proofs.Loops.{runs_more, runs_done, runs_err}
 use Rattle.lef_text.proofs.macros.macro_lines.Goals as goal
 
-pub returns-in_err-macro_line : goal.returns-in_err-macro_line
-returns-in_err-macro_line c = runs_err _ _ _ c.lines.invariant c.in_err-macro_line.ensures c.from_residual.ensures.1
+pub returns-in_err-macro_line-clause-reads : goal.returns-in_err-macro_line-clause-reads
+returns-in_err-macro_line-clause-reads c = runs_err _ _ _ c.lines.invariant.runs c.in_err-macro_line.ensures.reads c.from_residual.ensures.1
 
 pub lines-preserved : goal.lines-preserved
-lines-preserved c = runs_more c.lines.invariant c.in_ok-macro_line.ensures c.if-not-branch.true
+lines-preserved c = record { runs = runs_more c.lines.invariant.runs c.in_ok-macro_line.ensures.reads c.if-not-branch.true; few = omega (arith, c.in_ok-macro_line.ensures.few, c.lines.invariant.few) }
 
-pub returns : goal.returns
-returns c = runs_done c.lines.invariant c.in_ok-macro_line.ensures c.if-not-branch.false
+pub returns-clause-reads : goal.returns-clause-reads
+returns-clause-reads c = runs_done c.lines.invariant.runs c.in_ok-macro_line.ensures.reads c.if-not-branch.false

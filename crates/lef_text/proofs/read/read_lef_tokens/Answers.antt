@@ -1,12 +1,21 @@
-use Rattle.std.proofs.Common.{rules}
+use Rattle.std.proofs.Common.{arith}
 use Rattle.rt_base.proofs.Scanning.{made_inside}
-use Rattle.lef_text.proofs.Named.{words_named}
-use Rattle.lef_text.proofs.SoundVias.{gives_lef, is_lef}
+use Rattle.rt_forms.proofs.Whole.{reads_text}
+use Rattle.lef_text.specs.Faults.{lef_faults}
+use Rattle.lef_text.specs.Lef.{lef}
+use Rattle.lef_text.proofs.Grammar.{lawful_lef, lef_is}
+use Rattle.lef_text.proofs.SoundCounts.{few_tokens}
+use Rattle.lef_text.proofs.SoundVias.{result_is_lef}
 use Rattle.lef_text.proofs.read.read_lef_tokens.Goals as goal
 
-pub value-requires : goal.value-requires
-value-requires c = made_inside c.args.text.now c.args.tokens.now c.requires.made
+pub new-words-requires : goal.new-words-requires
+new-words-requires c = made_inside c.args.text.now c.args.tokens.now c.requires.tokens.made
 
-pub returns-then-is_countable-clause-fits : goal.returns-then-is_countable-clause-fits
-returns-then-is_countable-clause-fits c =
-    is_lef c.in-Ok.lef ((gives_lef c.args.units).all _ _ c.in-Ok.lef (words_named c.args.text.now c.args.tokens.now c.requires) c.in-Ok.ensures.found) (c.if-is_countable.ensures.layers (search rules)) (c.if-is_countable.ensures.vias (search rules)) (c.if-is_countable.ensures.macros (search rules)) (c.if-is_countable.ensures.pins (search rules))
+pub lef-requires : goal.lef-requires
+lef-requires c = omega (arith, few_tokens c.args.text.now c.args.tokens.now c.requires.tokens, c.requires.text, c.new-words.ensures.count)
+
+pub returns-clause-text : goal.returns-clause-text
+returns-clause-text c = reads_text lef_faults (λ x. x) (lef c.args.units) (lawful_lef c.args.units) (lef_is c.args.units) c.args.text.now c.args.tokens.now _ c.lef.result (rw c.new-words.ensures.words at c.lef.ensures)
+
+pub returns-clause-fits : goal.returns-clause-fits
+returns-clause-fits c = result_is_lef c.args.units c.args.text.now c.args.tokens.now c.lef.result c.requires.text c.requires.tokens (reads_text lef_faults (λ x. x) (lef c.args.units) (lawful_lef c.args.units) (lef_is c.args.units) c.args.text.now c.args.tokens.now _ c.lef.result (rw c.new-words.ensures.words at c.lef.ensures)).found

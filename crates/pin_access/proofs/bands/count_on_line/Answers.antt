@@ -2,7 +2,7 @@ use Rattle.std.proofs.Common.{◌≡◌, ◌∙◌, ◌↔◌, ℤ, List, Any, C
 use Rattle.std.proofs.lemmas.Int.{to_z-of_z}
 use Rattle.rt_base.specs.declared.geometry.Span.{Span}
 use Rattle.pin_access.specs.Bands.{IsIn, IsNearBand}
-use Rattle.pin_access.proofs.Counting.{counts_same}
+use Rattle.pin_access.proofs.HowMany.{counts_same}
 use Rattle.pin_access.proofs.bands.count_on_line.Goals as goal
 
 pub returns-clause-count : goal.returns-clause-count

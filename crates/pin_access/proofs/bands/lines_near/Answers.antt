@@ -5,7 +5,7 @@ use Rattle.std.proofs.lemmas.List.{get_or_default}
 use Rattle.pin_access.specs.declared.bands.Band.{Band}
 use Rattle.pin_access.specs.Bands.{beyond, IsBand}
 use Rattle.pin_access.proofs.Banding.{high_fits, hull_more, reached_between, low_is, high_is}
-use Rattle.pin_access.proofs.Counting.{within_length}
+use Rattle.pin_access.proofs.HowMany.{within_length}
 use Rattle.pin_access.proofs.Sweeping.{differ_ascending}
 use Rattle.pin_access.proofs.bands.lines_near.Goals as goal
 

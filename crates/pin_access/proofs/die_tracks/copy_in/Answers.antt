@@ -1,5 +1,5 @@
 use Rattle.std.proofs.Common.{◌≡◌, ◌∙◌, ◌≤◌, ◌↔◌, ◌≤ℤ◌, ℤ, List, length, Contains, sym, ap, subst, arith}
-use Rattle.pin_access.proofs.Counting.{within_length}
+use Rattle.pin_access.proofs.HowMany.{within_length}
 use Rattle.pin_access.proofs.Sweeping.{differ_ascending}
 use Rattle.pin_access.proofs.die_tracks.copy_in.Goals as goal
 

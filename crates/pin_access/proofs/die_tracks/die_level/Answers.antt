@@ -4,7 +4,7 @@ use Rattle.track_graph.specs.Levels.{is_horizontal, lines_of, lines_below}
 use Rattle.pin_access.specs.declared.bands.Band.{Band}
 use Rattle.pin_access.specs.Bands.{band_of}
 use Rattle.pin_access.specs.EntryOrder.{system_of}
-use Rattle.pin_access.proofs.Counting.{within_length}
+use Rattle.pin_access.proofs.HowMany.{within_length}
 use Rattle.pin_access.proofs.DieLemmas.{few_lines, few_lines_below, level_exactly}
 use Rattle.pin_access.proofs.NearLemmas.{ArePart}
 use Rattle.pin_access.proofs.Sweeping.{differ_ascending}

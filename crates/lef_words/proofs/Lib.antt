@@ -1,5 +1,0 @@
-pub mod Gives
-pub mod Layers
-pub mod Macros
-pub mod Names
-pub mod Words

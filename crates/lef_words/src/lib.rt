@@ -1,2 +1,0 @@
-//! Names that LEF says are tokens of its text. Statements alone, without code.
-#![tactic(auto)]
