@@ -1,19 +1,23 @@
 -- The first fault of a list, item by item.
-use Rattle.std.proofs.Common.{unwrap_or, min, ◌^◌, ◌-◌, ◌≡◌, ◌≢◌, ℕ, ◌+◌, ◌<◌, ◌≤◌, All, inl, inr, List, [], ◌∷◌, ◌++◌, length, get_or, take, drop, Option, Some, None, Result, IsErrAnd, refl, sym, ap, subst, ◌∙◌, arith}
+use Rattle.std.proofs.Common.{unwrap_or, min, sum_by, ◌*◌, ◌^◌, ◌-◌, ◌≡◌, ◌≢◌, ℕ, ◌+◌, ◌<◌, ◌≤◌, All, inl, inr, List, [], ◌∷◌, ◌++◌, length, get_or, take, drop, Option, Some, None, Result, IsErrAnd, refl, sym, ap, subst, ◌∙◌, arith}
 use Rattle.std.specs.Option.{option_or}
 use Rattle.std.proofs.lemmas.Result.{err_from_is_err_and}
 use Rattle.std.proofs.lemmas.List.{take_more, drop_more, take-append-drop}
 use Rattle.std.proofs.lemmas.Bool.{cases_lt, lt-ltb}
 use Rattle.std.proofs.lemmas.List.Elements.{All-cons, All-weaker}
 use Rattle.std.proofs.lemmas.Option.{none-some}
+use Rattle.rt_base.specs.Tiles.{columns_of, rows_of}
+use Rattle.rt_base.specs.declared.grid.Grid.{Grid}
 use Rattle.rt_base.specs.declared.tech.Layer.{Layer}
+use Rattle.rt_base.specs.declared.tech.Shape.{Shape}
 use Rattle.rt_base.specs.declared.tech.Tech.{Tech}
+use Rattle.track_graph.specs.declared.design.Net.{Net}
 use Rattle.build.specs.declared.error.BuildError.{BuildError}
 use Rattle.build.specs.declared.error.BuildError.TheVariants.{Memory as OutOfMemory, Limit}
 use Rattle.build.specs.declared.error.Limited.{Limited}
-use Rattle.build.specs.declared.error.Limited.TheVariants.{RoutingLayers, Tracks, FixedShapes, Coordinate}
+use Rattle.build.specs.declared.error.Limited.TheVariants.{RoutingLayers, Tracks, FixedShapes, Coordinate, Entries, Tiles, TileShapes}
 use Rattle.build.specs.Built.{fixed_of}
-use Rattle.build.specs.Faults.{first_of, first_by, lines_said, limit_fault, largest_coordinate, level_fault, guide_fault, vias_part, unit_fault, placed_fault, wired_fault, level_and_guide_fault, name_fault, count_faults, count_fault}
+use Rattle.build.specs.Faults.{first_of, first_by, lines_said, limit_fault, largest_coordinate, level_fault, guide_fault, vias_part, unit_fault, placed_fault, wired_fault, level_and_guide_fault, name_fault, count_faults, count_fault, entry_count, met_count, size_fault}
 use Rattle.build.specs.Findings.{Finds}
 use Rattle.build.specs.Inputs.{Input}
 use Rattle.build.specs.LookUps.{layer_names_of, net_names}

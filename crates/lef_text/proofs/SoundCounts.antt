@@ -72,7 +72,7 @@ yields_pins units name n s w macro_lines.Unused h = yields_then rest _ (TurnAt P
 yields_pins units name n s w macro_lines.End h = yields_then (the_word name) _ (TurnAt PinsAt (1 + n)) (λ u. yields_done (Done s) (TurnAt PinsAt (1 + n)) (omega (arith, h)))
 yields_pins units name n s w macro_lines.Unknown h = yields_refused _ (TurnAt PinsAt (1 + n))
 
--- a count behind the first word of a line or of a statement
+-- a count after the first word of a line or of a statement
 shifted : {S : Type 0} (P : ℕ → S → Type 0) (n k : ℕ) (t : Turn S) → TurnAt P ((1 + n) + k) t → TurnAt P (n + (1 + k)) t
 shifted P n k t h = subst (λ (m : ℕ). TurnAt P m t) (same n k) h
   where
@@ -264,7 +264,7 @@ of_turn : (b : Bool) (n : ℕ) (lib : Library) → FewTurn n (turn b lib) → Ha
 of_turn true n lib h = h
 of_turn false n lib h = h
 
--- behind a statement
+-- after a statement
 pub room_more : (units : ℕ) (lib new : Library) (old words : List Lexeme) (last : Bool) → HasRoom lib old → (lefs.statement units lib).read lef_faults old ≡ Ok (turn last new, words) → HasRoom new words
 room_more units lib new old words last h e =
     let found = (lawful_statement units lib).found lef_faults old words (turn last new) e in
