@@ -123,10 +123,10 @@ levels_within : (i : Input) → level_and_guide_fault i ≡ None → length (rou
 unfolding level_and_guide_fault
 levels_within i h =
     let n = none_all (
-      first_by (level_fault i.def.tracks) (routing_layers i.lef.layers)
-      ∷ first_by (guide_fault (layer_names_of i.lef) (net_names i.def.nets)) (unwrap_or i.guides [])
-      ∷ limit_fault RoutingLayers (length (routing_layers i.lef.layers)) 16
-      ∷ []) h in
+    first_by (level_fault i.def.tracks) (routing_layers i.lef.layers)
+    ∷ first_by (guide_fault (layer_names_of i.lef) (net_names i.def.nets)) (unwrap_or i.guides [])
+    ∷ limit_fault RoutingLayers (length (routing_layers i.lef.layers)) 16
+    ∷ []) h in
     limit_none RoutingLayers (length (routing_layers i.lef.layers)) 16 n.1.1.0
 
 pub few_levels : (i : Input) → name_fault i ≡ None → length (routing_layers i.lef.layers) ≤ 16

@@ -1,8 +1,8 @@
 -- Counting vertices level by level, and entries by their vertices.
-use Rattle.std.proofs.Common.{◌^◌, ◌≡◌, ◌≢◌, ◌⊎◌, ◌↔◌, inl, inr, ⊎_elim, ℕ, zero, suc, ◌+◌, ◌-◌, ◌*◌, ◌<◌, ◌≤◌, ℤ, ◌-ℤ◌, Bool, true, false, if◌then◌else◌, unsigned_abs, List, [], ◌∷◌, ◌++◌, length, get_or, take, map, slice_get, Some, None, All, AllPairs, Any, Contains, refl, sym, ap, subst, ◌∙◌, arith}
+use Rattle.std.proofs.Common.{◌^◌, ◌≡◌, ◌≢◌, ◌⊎◌, ◌↔◌, inl, inr, ⊎_elim, ℕ, zero, suc, ◌+◌, ◌-◌, ◌*◌, ◌<◌, ◌≤◌, ℤ, Bool, true, false, if◌then◌else◌, List, [], ◌∷◌, ◌++◌, length, get_or, take, map, slice_get, Some, All, Any, Contains, refl, sym, ap, subst, ◌∙◌, arith}
 use Rattle.std.proofs.lemmas.Bool.{cases_lt}
-use Rattle.std.proofs.lemmas.List.{take_more, length-append, length-take-le, length-map, get_or_append_left, get_or-append_right, get_or_default}
-use Rattle.std.proofs.lemmas.Option.{slice_get_cases, slice_get_within, slice_get-get_or, get_or_from_slice_get, same_Some}
+use Rattle.std.proofs.lemmas.List.{take_more, length-append, length-map, get_or_append_left, get_or-append_right}
+use Rattle.std.proofs.lemmas.Option.{slice_get_within, slice_get-get_or, get_or_from_slice_get}
 use Rattle.rt_base.specs.Sides.{Sides}
 use Rattle.rt_base.specs.Geometry.{distance, nearest_point}
 use Rattle.rt_base.specs.declared.geometry.Point.{Point}
@@ -10,9 +10,9 @@ use Rattle.rt_base.specs.declared.walk.Vertex.{Vertex}
 use Rattle.rt_base.specs.declared.walk.Entry.{Entry}
 use Rattle.rt_base.specs.declared.walk.EntryKind.TheVariants.{Stub}
 use Rattle.rt_base.specs.declared.walk.EntryKind.{EntryKind}
-use Rattle.rt_base.proofs.Lists.{Any-here, Any-cases, Any-none}
+use Rattle.rt_base.proofs.Lists.{Any-here, Any-none}
 use Rattle.track_graph.specs.Entries.{IsPinEntry, IsStubEntry, IsEntry}
-use Rattle.track_graph.specs.Levels.{TrackSystem, levels, is_horizontal, vertex_at, line_of, along}
+use Rattle.track_graph.specs.Levels.{TrackSystem, is_horizontal, vertex_at, line_of, along}
 use Rattle.track_graph.specs.Metal.{Metal}
 use Rattle.pin_access.specs.declared.die_tracks.DieLevel.{DieLevel}
 use Rattle.pin_access.specs.declared.die_tracks.DieTracks.{DieTracks}

@@ -1,5 +1,5 @@
 -- The vertices of a level near a rectangle, track by track.
-use Rattle.std.specs.Prelude.{◌≡◌, ℕ, ◌≤◌, ◌*◌, ◌^◌, unsigned_abs, unwrap_or, slice_get, ℤ, pos, ◌<ℤ◌, ◌≤ℤ◌, ◌+ℤ◌, ◌-ℤ◌, Bool, if◌then◌else◌, nat_le, List, AllPairs, map, filter}
+use Rattle.std.specs.Prelude.{◌≡◌, ℕ, ◌≤◌, ◌*◌, ◌^◌, unsigned_abs, unwrap_or, slice_get, ℤ, pos, ◌≤ℤ◌, ◌+ℤ◌, ◌-ℤ◌, Bool, if◌then◌else◌, nat_le, List, map, filter}
 use Rattle.std.specs.List.{flat_map}
 use Rattle.std.specs.Int.{int_min, int_max}
 use Rattle.rt_base.specs.Sides.{Sides}

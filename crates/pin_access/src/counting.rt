@@ -15,11 +15,7 @@ use rt_base::{LayerNo, Memory, Rect};
 use std::alloc::Global;
 
 /// The rectangles on a level's layer, as its tracks see them.
-fn bands_on(
-    alloc: Global,
-    level: &DieLevel,
-    rects: &[(LayerNo, Rect)],
-) -> Result<Vec<Band>, Memory>
+fn bands_on(alloc: Global, level: &DieLevel, rects: &[(LayerNo, Rect)]) -> Result<Vec<Band>, Memory>
     requires { All (λ (m : Metal). AreSidesWithin (2 ^ 61) m.1) rects.now }
     ensures bands { IfOk result (λ v. All IsBand v.items) }
     ensures near { IfOk result (λ v. (reach : ℕ) (line z : ℤ) → Any (IsNearBand reach line z) v.items ↔ Any (IsNearOn level.now reach line z) rects.now) }

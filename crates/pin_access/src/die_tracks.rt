@@ -105,12 +105,7 @@ fn die_level(
 
 impl DieTracks {
     /// The tracks of each level in the die.
-    pub fn new(
-        alloc: Global,
-        tech: &Tech,
-        tracks: &Tracks,
-        die: Rect,
-    ) -> Result<DieTracks, Memory>
+    pub fn new(alloc: Global, tech: &Tech, tracks: &Tracks, die: Rect) -> Result<DieTracks, Memory>
         requires tech { IsTech tech.now }
         requires tracks { AreTracks tech.now tracks.now }
         requires few { All (λ lines. length lines ≤ 65536) tracks.now.lines }

@@ -1,4 +1,4 @@
-use Rattle.std.proofs.Common.{◌≡◌, ◌∙◌, ◌↔◌, ℤ, List, Any, Contains, to_z, of_z, w64, sym, subst}
+use Rattle.std.proofs.Common.{◌≡◌, ◌↔◌, ℤ, List, Any, Contains, to_z, of_z, w64, sym, subst}
 use Rattle.std.proofs.lemmas.Int.{to_z-of_z}
 use Rattle.rt_base.specs.declared.geometry.Span.{Span}
 use Rattle.pin_access.specs.Bands.{IsIn, IsNearBand}

@@ -1,4 +1,4 @@
-use Rattle.std.proofs.Common.{◌≡◌, ◌∙◌, ℕ, ◌+◌, ◌*◌, ◌≤◌, ℤ, pos, get_or, take, length, List, Any, Contains, to_z, of_z, w64, subst, rules, arith}
+use Rattle.std.proofs.Common.{◌≡◌, ℤ, pos, get_or, List, Any, Contains, to_z, of_z, w64, subst, rules, arith}
 use Rattle.std.proofs.lemmas.Int.{to_z-of_z}
 use Rattle.std.proofs.lemmas.List.{get_or_default, take_all}
 use Rattle.pin_access.specs.Bands.{IsNearBand, IsNearBands}

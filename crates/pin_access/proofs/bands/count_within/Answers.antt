@@ -1,8 +1,8 @@
-use Rattle.std.proofs.Common.{◌≡◌, ◌+◌, ◌≤◌, ◌<ℤ◌, ℤ, pos, length, get_or, to_z, of_z, w64, rules, arith}
+use Rattle.std.proofs.Common.{◌≡◌, pos, get_or, to_z, of_z, w64, rules, arith}
 use Rattle.std.proofs.lemmas.Int.{to_z-of_z}
 use Rattle.std.proofs.lemmas.List.{get_or_default}
 use Rattle.rt_base.specs.declared.geometry.Span.{Span}
-use Rattle.pin_access.proofs.Sweeping.{Swept, Takes, Leaves, counted_most, swept_none, swept_more, swept_most, swept_all}
+use Rattle.pin_access.proofs.Sweeping.{Takes, Leaves, counted_most, swept_none, swept_more, swept_most, swept_all}
 use Rattle.pin_access.proofs.bands.count_within.Goals as goal
 
 abbrev no_span : Span

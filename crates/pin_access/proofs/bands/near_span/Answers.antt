@@ -1,6 +1,6 @@
-use Rattle.std.proofs.Common.{◌≡◌, ◌∙◌, ◌-◌, ◌≤◌, ◌-ℤ◌, ◌+ℤ◌, ℕ, ℤ, pos, to_z, of_z, w64, sym, ap, arith}
+use Rattle.std.proofs.Common.{◌≡◌, ◌∙◌, ◌-◌, ◌-ℤ◌, ◌+ℤ◌, ℕ, pos, to_z, of_z, w64, ap, arith}
 use Rattle.std.proofs.lemmas.Int.{to_z-of_z}
-use Rattle.pin_access.specs.Bands.{beyond, IsNearBand}
+use Rattle.pin_access.specs.Bands.{beyond}
 use Rattle.pin_access.proofs.Banding.{larger_is, low_is, high_is}
 use Rattle.pin_access.proofs.bands.near_span.Goals as goal
 

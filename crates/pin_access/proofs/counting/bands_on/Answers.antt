@@ -1,10 +1,10 @@
-use Rattle.std.proofs.Common.{◌^◌, ◌≡◌, ◌∙◌, ◌↔◌, ℕ, ℤ, List, [], ◌∷◌, ◌++◌, All, Any, take, refl, sym, ap, subst, arith}
+use Rattle.std.proofs.Common.{◌^◌, ◌↔◌, List, All, Any, sym, subst}
 use Rattle.std.proofs.lemmas.List.{take_all}
 use Rattle.track_graph.specs.Metal.{Metal}
 use Rattle.pin_access.specs.Bands.{IsNearBand}
 use Rattle.pin_access.specs.DieTracks.{IsNearOn}
 use Rattle.pin_access.specs.Nearby.{IsRect}
-use Rattle.pin_access.proofs.CountLemmas.{AreBands, bands_none, bands_more, bands_skip}
+use Rattle.pin_access.proofs.CountLemmas.{bands_none, bands_more, bands_skip}
 use Rattle.pin_access.proofs.counting.bands_on.Goals.{then-metal-level+in_ok-push, else-metal-level}
 use Rattle.pin_access.proofs.counting.bands_on.Goals as goal
 use Rattle.rt_base.specs.Ranges.{AreSidesWithin}

@@ -1,4 +1,4 @@
-use Rattle.std.proofs.Common.{◌≡◌, ◌∙◌, ◌<◌, ◌≤◌, ◌*◌, ℕ, List, length, All, subst, sym, ap, arith}
+use Rattle.std.proofs.Common.{◌≡◌, ◌<◌, ℕ, List, length, All, subst, sym, arith}
 use Rattle.track_graph.specs.Entries.{IsEntry}
 use Rattle.track_graph.specs.Metal.{Metal}
 use Rattle.pin_access.specs.declared.die_tracks.DieLevel.{DieLevel}

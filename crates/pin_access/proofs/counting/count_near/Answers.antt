@@ -1,8 +1,6 @@
-use Rattle.std.proofs.Common.{◌*◌, ℕ, ℤ, List, subst, arith}
-use Rattle.std.proofs.lemmas.List.{take_all}
+use Rattle.std.proofs.Common.{◌*◌, arith}
 use Rattle.pin_access.specs.declared.die_tracks.DieLevel.{DieLevel}
-use Rattle.pin_access.specs.Counts.{Counts}
-use Rattle.pin_access.specs.DieTracks.{IsNearLevel, IsNearSome}
+use Rattle.pin_access.specs.DieTracks.{IsNearLevel}
 use Rattle.pin_access.proofs.CountLemmas.{of_more}
 use Rattle.pin_access.proofs.counting.count_near.Goals as goal
 

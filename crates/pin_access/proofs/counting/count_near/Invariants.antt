@@ -1,4 +1,4 @@
-use Rattle.std.proofs.Common.{◌≤◌, ◌<◌, ◌*◌, ◌^◌, ℕ, ℤ, take, All}
+use Rattle.std.proofs.Common.{◌≤◌, ◌<◌, ◌*◌, ◌^◌, take, All}
 use Rattle.track_graph.specs.Metal.{Metal}
 use Rattle.pin_access.specs.Counts.{Counts}
 use Rattle.pin_access.specs.DieTracks.{IsNearSome}

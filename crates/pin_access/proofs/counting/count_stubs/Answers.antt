@@ -1,5 +1,5 @@
-use Rattle.std.proofs.Common.{◌≡◌, ◌∙◌, ◌+◌, ◌-◌, ◌*◌, ◌<◌, ℕ, ℤ, pos, List, [], ◌∷◌, take, drop, get_or, length, sym, ap, subst, arith}
-use Rattle.std.proofs.lemmas.List.{get_or_default, take_all}
+use Rattle.std.proofs.Common.{◌+◌, ℕ, List, [], ◌∷◌, take, get_or, sym, subst, arith}
+use Rattle.std.proofs.lemmas.List.{get_or_default}
 use Rattle.track_graph.specs.Entries.{no_metal}
 use Rattle.track_graph.specs.Metal.{Metal}
 use Rattle.pin_access.specs.Counts.{Counts}

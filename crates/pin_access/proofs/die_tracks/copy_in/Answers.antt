@@ -1,4 +1,4 @@
-use Rattle.std.proofs.Common.{◌≡◌, ◌∙◌, ◌≤◌, ◌↔◌, ◌≤ℤ◌, ℤ, List, length, Contains, sym, ap, subst, arith}
+use Rattle.std.proofs.Common.{◌≡◌, ◌∙◌, ◌≤◌, ◌↔◌, ◌≤ℤ◌, ℤ, List, length, Contains, sym, subst}
 use Rattle.pin_access.proofs.HowMany.{within_length}
 use Rattle.pin_access.proofs.Sweeping.{differ_ascending}
 use Rattle.pin_access.proofs.die_tracks.copy_in.Goals as goal

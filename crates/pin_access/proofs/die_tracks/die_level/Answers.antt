@@ -1,5 +1,4 @@
-use Rattle.std.proofs.Common.{◌≡◌, ◌∙◌, ◌+◌, ◌≤◌, ℕ, ℤ, List, length, sym, ap, subst, arith}
-use Rattle.rt_base.specs.declared.geometry.Span.{Span}
+use Rattle.std.proofs.Common.{◌≡◌, ◌∙◌, ◌+◌, ◌≤◌, ℤ, List, length, sym, ap, subst, arith}
 use Rattle.track_graph.specs.Levels.{is_horizontal, lines_of, lines_below}
 use Rattle.pin_access.specs.declared.bands.Band.{Band}
 use Rattle.pin_access.specs.Bands.{band_of}

@@ -1,10 +1,10 @@
-use Rattle.std.proofs.Common.{◌+◌, ◌≡◌, ◌∙◌, ◌<◌, ◌≤◌, ◌++◌, ◌∷◌, [], ℕ, length, sym, ap, subst, List, All, arith}
+use Rattle.std.proofs.Common.{◌+◌, ◌≡◌, ◌∙◌, ◌++◌, ◌∷◌, [], ℕ, length, sym, ap, subst, List, All, arith}
 use Rattle.std.proofs.lemmas.List.{length-append}
 use Rattle.std.proofs.lemmas.List.Elements.{All-push}
 use Rattle.pin_access.specs.declared.die_tracks.DieLevel.{DieLevel}
 use Rattle.pin_access.specs.DieTracks.{IsDieLevel, IsDieLevelOf}
 use Rattle.pin_access.specs.EntryOrder.{system_of}
-use Rattle.pin_access.proofs.DieLemmas.{Numbered, numbered, not_numbered, each_more}
+use Rattle.pin_access.proofs.DieLemmas.{Numbered, numbered, each_more}
 use Rattle.pin_access.proofs.die_tracks.DieTracks.new.Goals as goal
 
 pub overflow_cast-layer : goal.overflow_cast-layer
