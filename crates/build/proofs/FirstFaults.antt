@@ -119,21 +119,21 @@ all_none [] n = refl
 all_none (f ∷ fs) n = fault_later f (first_of fs) None n.0 (all_none fs n.1)
 
 -- what the fault of names rules out: too many levels
+levels_within : (i : Input) → level_and_guide_fault i ≡ None → length (routing_layers i.lef.layers) ≤ 16
+unfolding level_and_guide_fault
+levels_within i h =
+    let n = none_all (
+      first_by (level_fault i.def.tracks) (routing_layers i.lef.layers)
+      ∷ first_by (guide_fault (layer_names_of i.lef) (net_names i.def.nets)) (unwrap_or i.guides [])
+      ∷ limit_fault RoutingLayers (length (routing_layers i.lef.layers)) 16
+      ∷ []) h in
+    limit_none RoutingLayers (length (routing_layers i.lef.layers)) 16 n.1.1.0
+
 pub few_levels : (i : Input) → name_fault i ≡ None → length (routing_layers i.lef.layers) ≤ 16
 unfolding name_fault
 few_levels i h =
     let n = none_all (unit_fault i ∷ vias_part i ∷ placed_fault i ∷ wired_fault i ∷ level_and_guide_fault i ∷ []) h in
     levels_within i n.1.1.1.1.0
-  where
-    levels_within : (i : Input) → level_and_guide_fault i ≡ None → length (routing_layers i.lef.layers) ≤ 16
-    unfolding level_and_guide_fault
-    levels_within i h =
-        let n = none_all (
-          first_by (level_fault i.def.tracks) (routing_layers i.lef.layers)
-          ∷ first_by (guide_fault (layer_names_of i.lef) (net_names i.def.nets)) (unwrap_or i.guides [])
-          ∷ limit_fault RoutingLayers (length (routing_layers i.lef.layers)) 16
-          ∷ []) h in
-        limit_none RoutingLayers (length (routing_layers i.lef.layers)) 16 n.1.1.0
 
 -- what the fault of counts rules out: too many lines of a level, too many shapes, and shapes too far off
 pub record Counted (i : Input) : Type 0 where

@@ -1,5 +1,5 @@
 -- LEF, DEF and options give one design or one refusal, and not both.
-use Rattle.std.proofs.Common.{◌≡◌, ◌≢◌, ◌⊎◌, ◌↔◌, ℕ, zero, suc, ◌+◌, ◌<◌, ℤ, ◌<ℤ◌, List, [], ◌∷◌, Bool, true, false, Option, Some, None, length, All, AllPairs, Any, Contains, IsTrue, refl, sym, ap, subst, ◌∙◌, inl, inr, arith, ⊎_elim}
+use Rattle.std.proofs.Common.{◌≡◌, ◌≢◌, ◌⊎◌, ◌↔◌, ℕ, zero, suc, ◌+◌, ◌<◌, ℤ, ◌<ℤ◌, List, [], ◌∷◌, Bool, true, false, Option, Some, None, length, All, AllPairs, Any, Contains, IsTrue, refl, sym, ap, subst, ◌∙◌, inl, inr, arith, ⊎_elim, ◌≤◌}
 use Rattle.std.specs.Prelude.{sum_by}
 use Rattle.std.specs.List.{AllZip, enumerate_from}
 use Rattle.std.proofs.lemmas.Int.{ints}
@@ -91,8 +91,19 @@ bool_unique false false h k = refl
 via_same : (v w : Via) → v.name ≡ w.name → v.usable ≡ w.usable → v.rects ≡ w.rects → v ≡ w
 via_same v w a b c = λ i. record { name = a i; usable = b i; rects = c i }
 
-usable_same : (t u : Tech) (rects : _) → t.layers ≡ u.layers → IsUsable t rects → IsUsable u rects
-usable_same t u rects same h = subst (λ ls. IsUsable (record { layers = ls; vias = u.vias }) rects) same h
+abbrev with_layers : List Layer → Tech
+with_layers ls = record { layers = ls; vias = [] }
+
+usable_same : (t u : Tech) (rects : List Metal) → t.layers ≡ u.layers → IsUsable t rects → IsUsable u rects
+usable_same t u rects same (level, h) = (level, record {
+  joins = record {
+    upper_level = subst (λ (ls : List Layer). level + 1 < length (routing_from 0 ls)) same h.joins.upper_level;
+    lower = subst (λ (ls : List Layer). Any (λ (r : Metal). r.0.0 ≡ layer_no (with_layers ls) level) rects) same h.joins.lower;
+    upper = subst (λ (ls : List Layer). Any (λ (r : Metal). r.0.0 ≡ layer_no (with_layers ls) (level + 1)) rects) same h.joins.upper;
+  };
+  cut = subst (λ (ls : List Layer). Any (λ (r : Metal). (layer_no (with_layers ls) level < r.0.0) × (r.0.0 < layer_no (with_layers ls) (level + 1))) rects) same h.cut;
+  only = subst (λ (ls : List Layer). All (λ (r : Metal). (layer_no (with_layers ls) level ≤ r.0.0) × (r.0.0 ≤ layer_no (with_layers ls) (level + 1))) rects) same h.only;
+})
 
 vias_unique : (t u : Tech) → t.layers ≡ u.layers → (said vs ws : List Via) → AllZip (IsViaSaid t) said vs → AllZip (IsViaSaid u) said ws → vs ≡ ws
 vias_unique t u same [] [] [] h k = refl

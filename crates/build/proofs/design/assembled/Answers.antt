@@ -9,8 +9,8 @@ use Rattle.build.specs.Standing.{Stands}
 use Rattle.build.proofs.Assembling.{AreBuilt, IsAssembled, ground_is, grid_is, built_through, nets_through, sizes_through, too_large, refused, assembled_gives, assembled_fits}
 use Rattle.build.proofs.design.assembled.Goals as goal
 
-pub count_all-entries-requires : goal.count_all-entries-requires
-count_all-entries-requires c =
+pub count_all-requires : goal.count_all-requires
+count_all-requires c =
     let i = input_by c.args.given.now in
     let options = c.args.options in
     let known = c.args.known.now in

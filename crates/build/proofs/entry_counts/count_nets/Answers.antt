@@ -16,17 +16,17 @@ count_pins-requires-clause-few c =
     omega (arith, ap length c.as_slice.ensures, is.pin_count)
 
 pub overflow_add-count : goal.overflow_add-count
-overflow_add-count c = omega (arith, c.in_ok-count_pins.ensures.most, c.loop-net.invariant.1, c.loop-net-test.true, c.requires.few)
+overflow_add-count c = omega (arith, c.in_ok-count.ensures.most, c.loop-net.invariant.1, c.loop-net-test.true, c.requires.few)
 
 pub loop-net-preserved : goal.loop-net-preserved
 loop-net-preserved c =
     let i = input_on c.args.on.now in
     let g = system_on c.args.on.now in
     let k = c.loop-net.net-index in
-    let n = c.in_ok-count_pins.field-0 in
-    let here : PinsHave (input_on c.args.on.now).lef (input_on c.args.on.now).def (system_on c.args.on.now) c.net-item.result.pins c.in_ok-count_pins.field-0 = subst (λ (cs : List (List ℕ × List ℕ)). PinsHave i.lef i.def g cs n) c.as_slice.ensures c.in_ok-count_pins.ensures.count in (
+    let n = c.in_ok-count.field-0 in
+    let here : PinsHave (input_on c.args.on.now).lef (input_on c.args.on.now).def (system_on c.args.on.now) c.net-item.result.pins c.in_ok-count.field-0 = subst (λ (cs : List (List ℕ × List ℕ)). PinsHave i.lef i.def g cs n) c.as_slice.ensures c.in_ok-count.ensures.count in (
       nets_more i g c.args.nets.now k c.net-item.result c.loop-net.count n c.loop-net-test.true c.net-item.is c.loop-net.invariant.0 here,
-      omega (arith, c.in_ok-count_pins.ensures.most, c.loop-net.invariant.1),
+      omega (arith, c.in_ok-count.ensures.most, c.loop-net.invariant.1),
     )
 
 pub returns : goal.returns

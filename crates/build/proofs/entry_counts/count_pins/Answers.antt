@@ -27,7 +27,7 @@ pub overflow_add-count : goal.overflow_add-count
 overflow_add-count c =
     let is : c.deref.result.now ≡ connected_rects (input_on c.args.on.now).lef (input_on c.args.on.now).def c.connection-item.result = c.deref.ensures.value ∙ c.in_ok-rects.ensures in
     let few = are_at_most c.args.on.now c.connection-item.result c.deref.result.now c.requires.ground is in
-    omega (arith, few, c.in_ok-count_entries.ensures.most, c.loop-connection.invariant.1, c.loop-connection-test.true, c.requires.few)
+    omega (arith, few, c.in_ok-count.ensures.most, c.loop-connection.invariant.1, c.loop-connection-test.true, c.requires.few)
 
 pub loop-connection-preserved : goal.loop-connection-preserved
 loop-connection-preserved c =
@@ -37,10 +37,10 @@ loop-connection-preserved c =
     let k = c.loop-connection.connection-index in
     let is : c.deref.result.now ≡ connected_rects (input_on c.args.on.now).lef (input_on c.args.on.now).def c.connection-item.result = c.deref.ensures.value ∙ c.in_ok-rects.ensures in
     let few = are_at_most c.args.on.now c.connection-item.result c.deref.result.now c.requires.ground is in
-    let n = c.in_ok-count_entries.field-0 in
-    let here : Counts (IsEntry (system_on c.args.on.now) c.loop-connection.connection-index (connected_rects (input_on c.args.on.now).lef (input_on c.args.on.now).def c.connection-item.result)) c.in_ok-count_entries.field-0 = subst (λ (ms : List Metal). Counts (IsEntry g k ms) n) is (c.in_ok-count_entries.ensures.count g k c.requires.of) in (
+    let n = c.in_ok-count.field-0 in
+    let here : Counts (IsEntry (system_on c.args.on.now) c.loop-connection.connection-index (connected_rects (input_on c.args.on.now).lef (input_on c.args.on.now).def c.connection-item.result)) c.in_ok-count.field-0 = subst (λ (ms : List Metal). Counts (IsEntry g k ms) n) is (c.in_ok-count.ensures.count g k c.requires.of) in (
       pins_more lef def g c.args.connections.now k c.connection-item.result c.loop-connection.count n c.loop-connection-test.true c.connection-item.is c.loop-connection.invariant.0 here,
-      omega (arith, few, c.in_ok-count_entries.ensures.most, c.loop-connection.invariant.1),
+      omega (arith, few, c.in_ok-count.ensures.most, c.loop-connection.invariant.1),
     )
 
 pub returns-clause-count : goal.returns-clause-count

@@ -9,7 +9,7 @@ use Rattle.build.proofs.limits.check_lines.Goals as goal
 
 pub returns-in_err-check_limit : goal.returns-in_err-check_limit
 returns-in_err-check_limit c =
-    told_fault c.from_residual-in_err-check_limit.result c.in_err-check_limit.field-0.0 _ _ c.from_residual-in_err-check_limit.ensures.1 c.in_err-check_limit.ensures
+    told_fault c.from_residual.result c.in_err-check_limit.field-0.0 _ _ c.from_residual.ensures.1 c.in_err-check_limit.ensures
     (λ h. kept_at (λ (l : Layer). limit_fault Tracks (lines_said l c.args.rows.now) 65536) (λ (l : Layer). l.routing) c.args.layers.now c.loop-layer.layer-index c.layer-item.result c.in_err-check_limit.field-0.0 c.loop-layer-test.true c.layer-item.is c.if-layer.true c.loop-layer.invariant
     (ap (λ (n : ℕ). limit_fault Tracks n 65536) (sym c.count_lines.ensures) ∙ h))
 
