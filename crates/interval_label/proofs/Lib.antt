@@ -1,0 +1,15 @@
+pub mod Gaps
+pub mod Sliding
+pub mod Reaching
+pub mod Lists
+pub mod Strips
+pub mod Marking
+pub mod Members
+pub mod Frontier
+pub mod Queues
+pub mod Costs
+pub mod Explaining
+pub mod Crossing
+pub mod Putting
+pub mod Starting
+pub mod Counting

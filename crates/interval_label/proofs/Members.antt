@@ -1,0 +1,27 @@
+use Rattle.std.proofs.Common.{◌≡◌, ◌≢◌, ◌⊎◌, inl, inr, ℕ, zero, suc, ◌+◌, ◌<◌, ◌≤◌, ℤ, ◌≤ℤ◌, ◌<ℤ◌, sym, refl, ap, ◌∙◌, subst, List, [], ◌∷◌, Contains, arith, ⊎_elim}
+use Rattle.interval_label.proofs.Strips.{cases_z}
+
+-- an element of a list with a first element is that one or is of the rest
+pub contains_cons : {X : Type 0} (a : X) (xs : List X) (b : X) → Contains (a ∷ xs) b → (b ≡ a) ⊎ Contains xs b
+contains_cons a xs b (zero, h, e) = inl (sym e)
+contains_cons a xs b (suc k, h, e) = inr (k, omega arith, e)
+
+pub contains_first : {X : Type 0} (a : X) (xs : List X) → Contains (a ∷ xs) a
+contains_first a xs = (0, omega arith, refl)
+
+pub contains_rest : {X : Type 0} (a : X) (xs : List X) (b : X) → Contains xs b → Contains (a ∷ xs) b
+contains_rest a xs b (k, h, e) = (suc k, omega arith, e)
+
+none_in : {X : Type 0} (b : X) → Contains [] b → ⊥
+none_in b (k, h, e) = omega (arith, h)
+
+-- whether a coordinate is in a list
+pub has_coord : (xs : List ℤ) (x : ℤ) → Contains xs x ⊎ (Contains xs x → ⊥)
+has_coord [] x = inr (none_in x)
+has_coord (y ∷ xs) x = ⊎_elim
+    (λ (e : x ≡ y). inl (subst (λ (z : ℤ). Contains (y ∷ xs) z) (sym e) (contains_first y xs)))
+    (λ (n : x ≢ y). ⊎_elim
+    (λ (h : Contains xs x). inl (contains_rest y xs x h))
+    (λ (h : Contains xs x → ⊥). inr (λ c. ⊎_elim (λ (e : x ≡ y). n e) (λ (r : Contains xs x). h r) (contains_cons y xs x c)))
+    (has_coord xs x))
+    (cases_z x y)

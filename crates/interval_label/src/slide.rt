@@ -1,0 +1,36 @@
+//! What slides cost, and the bound at places.
+ghost use Rattle.std.specs.Prelude.{◌≡◌, ◌<◌, ◌^◌};
+ghost use Rattle.label_arena.specs.Plain.{gap, slide, IsInside};
+ghost use Rattle.interval_label.specs.Task.{left_at, IsPriced};
+
+use future_cost::Bound;
+use label_arena::{Arena, Place};
+
+/// How far apart the coordinates of two places are.
+fn apart(from: Place, to: Place) -> u64
+    ensures { result ≡ gap from.coord to.coord }
+{
+    from.coord.abs_diff(to.coord)
+}
+
+/// What the slide between two places of one interval costs.
+pub fn along(arena: &Arena, from: Place, to: Place) -> u64
+    requires priced { IsPriced arena.now.graph }
+    requires from { IsInside arena.now.graph from }
+    requires to { IsInside arena.now.graph to }
+    requires one_interval { from.interval ≡ to.interval }
+    ensures value { result ≡ slide arena.now.graph from to.coord }
+    ensures small { result < 2 ^ 60 }
+{
+    arena.interval(from.interval).factor * apart(from, to)
+}
+
+/// The bound at a place.
+pub fn left(arena: &Arena, bound: &Bound, place: Place) -> u64
+    requires inside { IsInside arena.now.graph place }
+    requires small { left_at arena.now.graph bound.now place < 2 ^ 62 }
+    ensures { result ≡ left_at arena.now.graph bound.now place }
+{
+    let vertex = arena.vertex(place);
+    bound.under(&vertex)
+}
