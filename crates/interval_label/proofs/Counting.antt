@@ -4,6 +4,7 @@ use Rattle.std.proofs.lemmas.Bool.{cases_eq}
 use Rattle.std.proofs.lemmas.Int.{ints}
 use Rattle.std.proofs.lemmas.Grind.{common_steps}
 use Rattle.std.proofs.lemmas.Option.{same_Some, slice_get_within}
+use Rattle.std.proofs.lemmas.List.Sums.{sum_by-cons}
 use Rattle.std.proofs.lemmas.Map.Steps.{length-le_from_distinct_below}
 use Rattle.std.proofs.Math.Nat.{mul-le-mul_right}
 use Rattle.label_arena.specs.declared.place.Place.{Place}
@@ -40,8 +41,8 @@ gap_cancel l x y a b e = omega (arith, ints)
 -- each interval is narrower than all together
 narrow : (is : List Interval) (k : ℕ) (i : Interval) → slice_get is k ≡ Some i → gap i.span.lo i.span.hi < sum_by (λ (i : Interval). gap i.span.lo i.span.hi + 1) is
 narrow [] k i h = let l : k < 0 = slice_get_within [] k i h in absurd (omega (arith, l))
-narrow (j ∷ is) zero i h = let e : j ≡ i = same_Some j i h in let f : gap j.span.lo j.span.hi ≡ gap i.span.lo i.span.hi = ap (λ (z : Interval). gap z.span.lo z.span.hi) e in omega (arith, f)
-narrow (j ∷ is) (suc k) i h = omega (arith, narrow is k i h)
+narrow (j ∷ is) zero i h = rw sum_by-cons (let e : j ≡ i = same_Some j i h in let f : gap j.span.lo j.span.hi ≡ gap i.span.lo i.span.hi = ap (λ (z : Interval). gap z.span.lo z.span.hi) e in omega (arith, f))
+narrow (j ∷ is) (suc k) i h = rw sum_by-cons (omega (arith, narrow is k i h))
 
 gap_low : (g : Graph) (p : Place) → IsInside g p → gap (low_at g p.interval.0) p.coord < widest g
 gap_low g p h = rw (low_is g p h) (omega (arith, narrow g.intervals p.interval.0 h.interval h.at, gap_far h.interval.span.lo h.interval.span.hi p.coord h.low h.high))

@@ -15,7 +15,7 @@ use Rattle.interval_label.specs.State.{IsLabel}
 use Rattle.interval_label.proofs.Lists.{get_last, length_more}
 use Rattle.interval_label.proofs.Sliding.{slid}
 use Rattle.interval_label.proofs.Reaching.{reaches_more, reaches_slid}
-use Rattle.interval_label.proofs.Marking.{mark_along}
+use Rattle.interval_label.proofs.Standing.{mark_along}
 
 step_of : (g : Graph) (by : By) (u v : Place) (c : ℕ) → WayBy g by u v c → IsStep g u v c
 step_of g (Source k) u v c h = absurd h

@@ -12,7 +12,7 @@ use Rattle.label_arena.specs.Lists.{Graph}
 use Rattle.label_arena.specs.Marks.{IsMark}
 use Rattle.label_arena.specs.Plain.{gap, factor_at, slide, IsInside, IsNext, IsStep, IsPointWay, IsRunWay, Reaches, IsConsistent, IsJoined}
 use Rattle.interval_label.specs.Task.{Stop}
-use Rattle.interval_label.proofs.Marking.{mark_source, mark_bridge, mark_run_end, mark_along}
+use Rattle.interval_label.proofs.Standing.{mark_source, mark_bridge, mark_run_end, mark_along}
 use Rattle.interval_label.specs.Known.{Rows, row_at, IsListed, IsKnown, KnowsMarks, HoldMarks, AreEven}
 use Rattle.interval_label.specs.Queue.{Queued, IsWaiting}
 use Rattle.interval_label.specs.Search.{IsExplained, clamped}

@@ -3,7 +3,7 @@ pub mod Sliding
 pub mod Reaching
 pub mod Lists
 pub mod Strips
-pub mod Marking
+pub mod Standing
 pub mod Members
 pub mod Frontier
 pub mod Queues
@@ -13,3 +13,4 @@ pub mod Crossing
 pub mod Putting
 pub mod Starting
 pub mod Counting
+pub mod Finishing

@@ -12,7 +12,7 @@ use Rattle.interval_label.specs.Queue.{Queued}
 use Rattle.interval_label.specs.State.{IsLabel, IsTask, IsRunning, Begins, source_label}
 use Rattle.interval_label.specs.declared.search.Search.{Search}
 use Rattle.interval_label.specs.declared.search.Best.{Best}
-use Rattle.interval_label.proofs.Marking.{mark_source}
+use Rattle.interval_label.proofs.Standing.{mark_source}
 use Rattle.interval_label.proofs.Reaching.{reaches_source}
 use Rattle.interval_label.proofs.Putting.{contains_at}
 
