@@ -15,6 +15,9 @@ inside_number g v h = slice_get_within g.intervals v.interval.0 h.interval h.at
 pub factor_read : (g : Graph) (n : ℕ) (i : Interval) → slice_get g.intervals n ≡ Some i → factor_at g n ≡ i.factor
 factor_read g n i h = ap (λ (o : Option Interval). unwrap_or (option_map (λ (i : Interval). i.factor) o) 0) h
 
+pub slide_read : (g : Graph) (u : Place) (x : ℤ) (i : Interval) → slice_get g.intervals u.interval.0 ≡ Some i → i.factor * gap u.coord x ≡ slide g u x
+slide_read g u x i h = ap (λ f. f * gap u.coord x) (sym (factor_read g u.interval.0 i h))
+
 pub interval_same : (m n : IntervalNo) → m.0 ≡ n.0 → m ≡ n
 interval_same m n e = ap (λ (k : ℕ). let i : IntervalNo = record { 0 = k } in i) e
 

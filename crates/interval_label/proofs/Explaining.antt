@@ -1,5 +1,6 @@
-use Rattle.std.proofs.Common.{◌≡◌, ◌⊎◌, inl, inr, ℕ, ◌+◌, ◌*◌, ◌<◌, ◌≤◌, ℤ, ◌≤ℤ◌, sym, refl, ap, ◌∙◌, subst, List, Option, Some, None, slice_get, arith, ⊎_elim}
+use Rattle.std.proofs.Common.{◌≡◌, ◌⊎◌, inl, inr, ℕ, ◌+◌, ◌*◌, ◌<◌, ◌≤◌, ℤ, ◌≤ℤ◌, sym, refl, ap, ◌∙◌, subst, List, Option, Some, None, slice_get, length, arith, ⊎_elim}
 use Rattle.std.proofs.lemmas.Int.{ints}
+use Rattle.std.proofs.lemmas.Option.{slice_get_within}
 use Rattle.label_arena.specs.declared.place.Place.{Place}
 use Rattle.label_arena.specs.declared.place.IntervalNo.{IntervalNo}
 use Rattle.label_arena.specs.declared.place.LabelNo.{LabelNo}
@@ -75,3 +76,34 @@ explained_by_is g ls y o on h =
   where
     same_one : (a b : Label) → Some a ≡ Some b → a ≡ b
     same_one a b e = cc
+
+pub not_explained_by : (g : Graph) (ls : List Label) (o : Option LabelNo) (y : Label) (n : LabelNo) (x : Label) → o ≡ Some n → slice_get ls n.0 ≡ Some x → y.dist < x.dist + slide g x.place y.place.coord → IsExplainedBy g ls o y → ⊥
+not_explained_by g ls o y n x e is far h =
+    let number : n ≡ h.0 = same_number n h.0 (sym e ∙ h.1) in
+    let label : x ≡ h.2.0 = same_one x h.2.0 (sym is ∙ ap (λ (k : LabelNo). slice_get ls k.0) number ∙ h.2.1) in
+    let low : x.dist + slide g x.place y.place.coord ≤ y.dist = subst (λ (z : Label). z.dist + slide g z.place y.place.coord ≤ y.dist) (sym label) h.2.2 in
+    omega (arith, far, low)
+  where
+    same_number : (a b : LabelNo) → Some a ≡ Some b → a ≡ b
+    same_number a b e = cc
+
+    same_one : (a b : Label) → Some a ≡ Some b → a ≡ b
+    same_one a b e = cc
+
+pub none_explained_by : (g : Graph) (ls : List Label) (o : Option LabelNo) (y : Label) → o ≡ None → IsExplainedBy g ls o y → ⊥
+none_explained_by g ls o y e h = clash h.0 (sym e ∙ h.1)
+  where
+    clash : (n : LabelNo) → None ≡ Some n → ⊥
+    clash n e = cc
+
+-- the label that `by` names
+pub on_label : (ls : List Label) (v : Place) (o : Option LabelNo) (n : LabelNo) (x : Label) → IsOn ls v o → o ≡ Some n → slice_get ls n.0 ≡ Some x → x.place.interval ≡ v.interval
+on_label ls v o n x on e is =
+    let there = on n e in
+    subst (λ (z : Label). z.place.interval ≡ v.interval) (same_one there.0 x (sym there.1 ∙ is)) there.2
+  where
+    same_one : (a b : Label) → Some a ≡ Some b → a ≡ b
+    same_one a b e = cc
+
+pub on_within : (ls : List Label) (v : Place) (o : Option LabelNo) (n : LabelNo) → IsOn ls v o → o ≡ Some n → n.0 < length ls
+on_within ls v o n on e = let there = on n e in slice_get_within ls n.0 there.0 there.1

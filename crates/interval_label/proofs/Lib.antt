@@ -14,3 +14,4 @@ pub mod Putting
 pub mod Starting
 pub mod Counting
 pub mod Finishing
+pub mod Spreading

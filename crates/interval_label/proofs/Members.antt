@@ -12,7 +12,7 @@ contains_first a xs = (0, omega arith, refl)
 pub contains_rest : {X : Type 0} (a : X) (xs : List X) (b : X) → Contains xs b → Contains (a ∷ xs) b
 contains_rest a xs b (k, h, e) = (suc k, omega arith, e)
 
-none_in : {X : Type 0} (b : X) → Contains [] b → ⊥
+pub none_in : {X : Type 0} (b : X) → Contains [] b → ⊥
 none_in b (k, h, e) = omega (arith, h)
 
 -- whether a coordinate is in a list

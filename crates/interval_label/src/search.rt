@@ -51,7 +51,11 @@ fn explained_by(arena: &Arena, by: Option<LabelNo>, candidate: Label) -> bool
         return false;
     };
     let label = arena.label(number);
-    label.dist + along(arena, label.place, candidate.place) <= candidate.dist
+    let dist = label.dist + along(arena, label.place, candidate.place);
+    if candidate.dist < dist {
+        return false;
+    }
+    true
 }
 
 /// Whether a label of its interval explains a candidate.
@@ -67,7 +71,10 @@ pub fn explains(arena: &Arena, candidate: Label) -> bool
         return true;
     }
     let above = arena.next_above(candidate.place);
-    explained_by(arena, above, candidate)
+    if explained_by(arena, above, candidate) {
+        return true;
+    }
+    false
 }
 
 impl Search {
