@@ -20,7 +20,7 @@ use Rattle.interval_label.specs.State.{IsCovered, IsSound}
 use Rattle.interval_label.proofs.Gaps.{far_triangle, gap_clamped, clamped_low, clamped_high}
 use Rattle.interval_label.proofs.Sliding.{at, slid}
 use Rattle.interval_label.proofs.Strips.{marks_met}
-use Rattle.interval_label.proofs.Members.{has_coord}
+use Rattle.interval_label.proofs.Members.{has_mark}
 
 -- a queued key is at most c and the bound at v
 pub record IsPending (b : Place → ℕ) (q : Queued) (v : Place) (c : ℕ) : Type 0 where
@@ -168,8 +168,8 @@ met_reached g sources targets b None ls q sound ok consistent even v c mark r = 
         (λ (d : (u.interval ≡ y.run.b) × (v.interval ≡ y.run.a)). let f : factor_at g u.interval.0 ≡ factor_at g v.interval.0 = ap (λ (n : IntervalNo). factor_at g n.0) d.0 ∙ sym (even k y.run y.at) ∙ ap (λ (n : IntervalNo). factor_at g n.0) (sym d.1) in omega (arith, l, f))
         y.ends
 met_reached g sources targets b (Some rows) ls q sound ok consistent hold v c mark r = met_closed g sources targets b (Some rows) ls q sound ok consistent
-    (λ v. Contains (row_at rows v.interval.0) v.coord)
-    (λ v. has_coord (row_at rows v.interval.0) v.coord)
+    (λ v. IsListed rows v)
+    (λ v. has_mark (row_at rows v.interval.0) (record { coord = v.coord }))
     hold.all
     (λ k u v e y m. hold.all v (mark_along g sources targets k u v e y (hold.marks u m)))
     (λ k u v e y m l. (rows, refl, hold.all v (mark_along g sources targets k u v e y (hold.marks u m))))

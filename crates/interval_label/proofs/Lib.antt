@@ -15,3 +15,4 @@ pub mod Starting
 pub mod Counting
 pub mod Finishing
 pub mod Spreading
+pub mod Improving

@@ -7,6 +7,7 @@ use Rattle.label_arena.specs.Plain.{factor_at, IsInside, IsRunWay}
 use Rattle.label_arena.specs.Marks.{IsMark}
 use Rattle.interval_label.specs.Task.{Stop}
 use Rattle.interval_label.specs.declared.marking.Marking.{Marking}
+use Rattle.interval_label.specs.declared.marking.Mark.{Mark}
 
 -- a row for each interval
 abbrev pub row_at : {X : Type 0} → List (List X) → ℕ → List X
@@ -14,11 +15,11 @@ row_at rows n = unwrap_or (slice_get rows n) []
 
 -- coordinates by intervals
 abbrev pub Rows : Type 0
-Rows = List (List ℤ)
+Rows = List (List Mark)
 
 -- the place is in its interval's row
 abbrev pub IsListed : Rows → Place → Type 0
-IsListed rows v = Contains (row_at rows v.interval.0) v.coord
+IsListed rows v = Contains (row_at rows v.interval.0) (record { coord = v.coord })
 
 -- the rows hold the marks and nothing else
 pub record HoldMarks (g : Graph) (sources targets : List Stop) (rows : Rows) : Type 0 where

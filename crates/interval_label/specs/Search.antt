@@ -119,6 +119,10 @@ pub record IsRunFrom (g : Graph) (k : ℕ) (run : Run) (from to : IntervalNo) : 
   pub at : slice_get g.runs k ≡ Some run
   pub ends : ((from ≡ run.a) × (to ≡ run.b)) ⊎ ((from ≡ run.b) × (to ≡ run.a))
 
+-- what a label leads to at this coordinate of the span waits
+abbrev pub ClimbsAt : Graph → Queued → Label → Run → IntervalNo → IntervalNo → ℤ → Type 0
+ClimbsAt g q x run from to z = run.span.lo ≤ℤ z → z ≤ℤ run.span.hi → x.place.interval ≡ from → IsWaiting q (record { interval = to; coord = z }) (x.dist + slide g x.place z + run.cost)
+
 -- where the far factor is larger, what a label leads to at each known mark of the span waits
 abbrev pub Climbs : Graph → Option Rows → Queued → Label → Run → IntervalNo → IntervalNo → Type 0
 Climbs g known q x run from to = factor_at g from.0 < factor_at g to.0 → x.place.interval ≡ from → (z : ℤ) → run.span.lo ≤ℤ z → z ≤ℤ run.span.hi → IsKnown known (record { interval = to; coord = z }) → IsWaiting q (record { interval = to; coord = z }) (x.dist + slide g x.place z + run.cost)

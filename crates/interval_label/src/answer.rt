@@ -9,6 +9,7 @@ ghost use Rattle.interval_label.specs.State.{IsTask, Puts, Begins, IsFinished, I
 
 use crate::improve::improved;
 use crate::known::known_marks;
+use crate::marking::Mark;
 use crate::rows::stops_of;
 use crate::search::{Best, Search};
 use crate::slide::along;
@@ -64,7 +65,7 @@ fn put<L: Ledger>(
     search: &mut Search,
     targets: &[(Place, u64)],
     bound: &Bound,
-    known: &Option<Seq<Seq<i64>>>,
+    known: &Option<Seq<Seq<Mark>>>,
     stops: &Seq<Seq<u64>>,
     candidate: Label,
     steps: &mut Steps<L>,
@@ -95,7 +96,7 @@ fn explore<L: Ledger>(
     sources: &[(Place, u64)],
     targets: &[(Place, u64)],
     bound: &Bound,
-    known: &Option<Seq<Seq<i64>>>,
+    known: &Option<Seq<Seq<Mark>>>,
     stops: &Seq<Seq<u64>>,
     steps: &mut Steps<L>,
 ) -> Result<Option<Best>, Memory>
@@ -133,7 +134,7 @@ fn finish<L: Ledger>(
     sources: &[(Place, u64)],
     targets: &[(Place, u64)],
     bound: &Bound,
-    known: &Option<Seq<Seq<i64>>>,
+    known: &Option<Seq<Seq<Mark>>>,
     stops: &Seq<Seq<u64>>,
     best: Option<Best>,
     steps: &mut Steps<L>,

@@ -1,14 +1,28 @@
 //! Ways from an interval to others.
-ghost use Rattle.std.specs.Prelude.{◌≡◌, ◌<◌, ◌≤◌, length, OnOk, true};
+ghost use Rattle.std.specs.Prelude.{◌≡◌, ◌<◌, ◌≤ℤ◌, length, OnOk, true};
 ghost use Rattle.interval_label.specs.Task.{left_at};
-ghost use Rattle.interval_label.specs.Known.{IsWide};
-ghost use Rattle.interval_label.specs.Search.{IsField, CanCross, CanSpread, Climbs, Crosses, Grows, CoversPoint, CoversFrom, CoversRun, IsRunFrom, Spreads};
+ghost use Rattle.interval_label.specs.Known.{IsKnown, IsWide};
+ghost use Rattle.interval_label.specs.Search.{IsField, CanCross, CanSpread, Climbs, ClimbsAt, Crosses, Grows, CoversPoint, CoversFrom, CoversRun, IsRunFrom, Spreads, clamped};
 
+use crate::marking::Mark;
+use crate::rows::row_of;
 use crate::search::Search;
-use crate::slide::along;
+use crate::slide::{along, holds};
 use future_cost::Bound;
 use label_arena::{Arena, By, IntervalNo, Label, LabelNo, Place, Run};
 use rt_base::{Memory, Seq};
+
+/// The coordinate of a run's span that is next to a place, on an interval.
+fn beside(run: Run, interval: IntervalNo, place: Place) -> Place
+    requires { run.span.lo ≤ℤ run.span.hi }
+    ensures number { result.interval ≡ interval }
+    ensures coord { result.coord ≡ clamped run.span.lo run.span.hi place.coord }
+{
+    Place {
+        interval,
+        coord: place.coord.clamp(run.span.lo, run.span.hi),
+    }
+}
 
 impl Search {
     /// Adds the candidate beyond a way that leaves the label's interval at `near`.
@@ -16,7 +30,7 @@ impl Search {
         &mut self,
         arena: &Arena,
         bound: &Bound,
-        known: &Option<Seq<Seq<i64>>>,
+        known: &Option<Seq<Seq<Mark>>>,
         number: LabelNo,
         label: Label,
         near: Place,
@@ -29,7 +43,7 @@ impl Search {
         ensures ok { OnOk result (Grows arena.now.graph (left_at arena.now.graph bound.now) known.now number label self.old self.new) }
         ensures covers { OnOk result (Crosses arena.now.graph self.new label near far cost) }
     {
-        if label.place.interval != near.interval {
+        if label.place.interval.0 != near.interval.0 {
             return Ok(());
         }
         let dist = label.dist + along(arena, label.place, near) + cost;
@@ -51,7 +65,7 @@ impl Search {
         &mut self,
         arena: &Arena,
         bound: &Bound,
-        known: &Option<Seq<Seq<i64>>>,
+        known: &Option<Seq<Seq<Mark>>>,
         number: LabelNo,
         label: Label,
         k: u64,
@@ -68,13 +82,42 @@ impl Search {
         Ok(())
     }
 
+    /// Crosses a run at a known mark, if its span holds it.
+    fn climb_at(
+        &mut self,
+        arena: &Arena,
+        bound: &Bound,
+        known: &Option<Seq<Seq<Mark>>>,
+        number: LabelNo,
+        label: Label,
+        k: u64,
+        run: Run,
+        from: IntervalNo,
+        to: IntervalNo,
+        mark: Mark,
+    ) -> Result<(), Memory>
+        requires field { IsField arena.now.graph (left_at arena.now.graph bound.now) }
+        requires can { CanSpread arena.now.graph (left_at arena.now.graph bound.now) self.old label }
+        requires is { IsRunFrom arena.now.graph k run from to }
+        requires known { IsKnown known.now (record { interval = to; coord = mark.coord }) }
+        ensures ok { OnOk result (Grows arena.now.graph (left_at arena.now.graph bound.now) known.now number label self.old self.new) }
+        ensures covers { OnOk result (ClimbsAt arena.now.graph self.new.queue.pairs label run from to mark.coord) }
+    {
+        let near = mark.on(from);
+        if !holds(run, near) {
+            return Ok(());
+        }
+        self.cross(arena, bound, known, number, label, near, mark.on(to), run.cost, By::Run)?;
+        Ok(())
+    }
+
     /// Crosses a run onto an interval of a larger factor at each known mark of the span: there the far
     /// interval's labels don't explain what is reached beside them.
     fn climb(
         &mut self,
         arena: &Arena,
         bound: &Bound,
-        known: &Option<Seq<Seq<i64>>>,
+        known: &Option<Seq<Seq<Mark>>>,
         number: LabelNo,
         label: Label,
         k: u64,
@@ -95,14 +138,8 @@ impl Search {
         if arena.interval(to).factor <= arena.interval(from).factor {
             return Ok(());
         }
-        let row = rows.as_slice()[to.0 as usize].as_slice();
-        'marks: for coord in row {
-            let coord = *coord;
-            if run.span.lo <= coord && coord <= run.span.hi {
-                let near = Place { interval: from, coord };
-                let far = Place { interval: to, coord };
-                self.cross(arena, bound, known, number, label, near, far, run.cost, By::Run)?;
-            }
+        'marks: for mark in row_of(rows, to) {
+            self.climb_at(arena, bound, known, number, label, k, run, from, to, *mark)?;
         }
         Ok(())
     }
@@ -112,7 +149,7 @@ impl Search {
         &mut self,
         arena: &Arena,
         bound: &Bound,
-        known: &Option<Seq<Seq<i64>>>,
+        known: &Option<Seq<Seq<Mark>>>,
         number: LabelNo,
         label: Label,
         k: u64,
@@ -130,9 +167,8 @@ impl Search {
         if run.span.hi < run.span.lo {
             return Ok(());
         }
-        let coord = label.place.coord.clamp(run.span.lo, run.span.hi);
-        let near = Place { interval: from, coord };
-        let far = Place { interval: to, coord };
+        let near = beside(run, from, label.place);
+        let far = beside(run, to, label.place);
         self.cross(arena, bound, known, number, label, near, far, run.cost, By::Run)?;
         self.climb(arena, bound, known, number, label, k, run, from, to)?;
         Ok(())
@@ -143,7 +179,7 @@ impl Search {
         &mut self,
         arena: &Arena,
         bound: &Bound,
-        known: &Option<Seq<Seq<i64>>>,
+        known: &Option<Seq<Seq<Mark>>>,
         number: LabelNo,
         label: Label,
         k: u64,
@@ -167,7 +203,7 @@ impl Search {
         &mut self,
         arena: &Arena,
         bound: &Bound,
-        known: &Option<Seq<Seq<i64>>>,
+        known: &Option<Seq<Seq<Mark>>>,
         number: LabelNo,
         label: Label,
     ) -> Result<(), Memory>

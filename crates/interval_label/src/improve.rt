@@ -5,6 +5,7 @@ ghost use Rattle.interval_label.specs.Task.{IsPriced, AreStops};
 ghost use Rattle.interval_label.specs.Known.{HoldStops};
 ghost use Rattle.interval_label.specs.Search.{IsCheaper, IsImproved};
 
+use crate::rows::row_of;
 use crate::search::Best;
 use crate::slide::along;
 use label_arena::{Arena, Label, Place};
@@ -37,7 +38,7 @@ fn offered(
     ensures { IsImproved arena.now.graph targets.now label number (λ j. j ≡ k) best result }
 {
     let (place, own) = targets[k as usize];
-    if label.place.interval != place.interval {
+    if label.place.interval.0 != place.interval.0 {
         return best;
     }
     let cost = label.dist + along(arena, label.place, place) + own;
@@ -67,7 +68,7 @@ pub fn improved(
     requires small { label.dist < 2 ^ 62 }
     ensures { IsImproved arena.now.graph targets.now label number (λ j. j < length targets.now) best result }
 {
-    let row = stops.as_slice()[label.place.interval.0 as usize].as_slice();
+    let row = row_of(stops, label.place.interval);
     let mut improved = best;
     'targets: for k in row {
         improved = offered(arena, targets, number, label, *k, improved);

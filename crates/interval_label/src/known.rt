@@ -4,7 +4,7 @@ ghost use Rattle.interval_label.specs.Task.{AreStops};
 ghost use Rattle.interval_label.specs.Known.{KnowsMarks};
 
 use crate::even::is_even;
-use crate::marking::Marking;
+use crate::marking::{Mark, Marking};
 use label_arena::{Arena, Place};
 use rt_base::{Memory, Seq};
 use std::alloc::Global;
@@ -16,7 +16,7 @@ pub fn known_marks(
     arena: &Arena,
     sources: &[(Place, u64)],
     targets: &[(Place, u64)],
-) -> Result<Option<Seq<Seq<i64>>>, Memory>
+) -> Result<Option<Seq<Seq<Mark>>>, Memory>
     requires sources { AreStops arena.now.graph sources.now }
     requires targets { AreStops arena.now.graph targets.now }
     requires indexed { arena.now.indexed ≡ true }

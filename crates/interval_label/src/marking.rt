@@ -1,28 +1,57 @@
 //! Marks that were found so far.
-ghost use Rattle.std.specs.Prelude.{◌≡◌, ◌<◌, length, OnOk, IfOk, Contains, IsTrue, ◌↔◌, [], true};
+ghost use Rattle.std.specs.Prelude.{◌≡◌, ◌<◌, length, OnOk, IfOk, Contains, [], true};
+ghost use Rattle.std.specs.Bool.{OnFalse, OnTrue};
 ghost use Rattle.label_arena.specs.Plain.{IsInside};
 ghost use Rattle.label_arena.specs.Marks.{IsStop, IsBridgeEnd, IsRunEnd};
 ghost use Rattle.interval_label.specs.Task.{AreStops};
 ghost use Rattle.interval_label.specs.Known.{IsMarking, Marks, IsAcross, IsJoinedTo};
 
 use crate::rows::empty_rows;
-use label_arena::{Arena, Place};
+use crate::slide::{holds, moved};
+use label_arena::{Arena, IntervalNo, Place, Run};
 use rt_base::{Memory, Seq};
 use std::alloc::Global;
+
+/// A mark of an interval.
+#[derive(Clone, Copy)]
+pub struct Mark {
+    pub coord: i64,
+}
+
+impl Mark {
+    /// The mark of a place.
+    pub fn of(place: Place) -> Mark
+        ensures { result ≡ record { coord = place.coord } }
+    {
+        Mark { coord: place.coord }
+    }
+
+    /// The mark's place on an interval.
+    pub fn on(self, interval: IntervalNo) -> Place
+        ensures { result ≡ record { interval = interval; coord = self.coord } }
+    {
+        Place {
+            interval,
+            coord: self.coord,
+        }
+    }
+}
 
 /// Places in the order in which they were found, and their coordinates by interval.
 #[derive(Drop)]
 pub struct Marking {
     pub list: Vec<Place>,
-    pub rows: Seq<Seq<i64>>,
+    pub rows: Seq<Seq<Mark>>,
 }
 
-/// Whether a row has a coordinate.
-fn has(row: &[i64], coord: i64) -> bool
-    ensures { IsTrue result ↔ Contains row.now coord }
+/// Whether a row has the coordinate of a place.
+fn has(row: &[Mark], place: Place) -> bool
+    ensures yes { OnTrue result (Contains row.now (record { coord = place.coord })) }
+    ensures no { OnFalse result (Contains row.now (record { coord = place.coord }) → ⊥) }
 {
-    'row: for other in row {
-        if *other == coord {
+    'row: for k in 0..row.len() {
+        let mark = row[k];
+        if mark.coord == place.coord {
             return true;
         }
     }
@@ -50,11 +79,11 @@ impl Marking {
         ensures has { OnOk result (Contains self.new.list.items place) }
     {
         let row = place.interval.0 as usize;
-        if has(self.rows.items[row].as_slice(), place.coord) {
+        if has(self.rows.items[row].as_slice(), place) {
             return Ok(());
         }
         self.list.push(place)?;
-        self.rows.items[row].push(place.coord)?;
+        self.rows.items[row].push(Mark::of(place))?;
         Ok(())
     }
 
@@ -87,20 +116,21 @@ impl Marking {
         Ok(())
     }
 
-    /// Adds a coordinate of a run on both intervals, if the run holds it.
-    fn add_across(&mut self, arena: &Arena, k: u64, coord: i64) -> Result<(), Memory>
+    /// Adds the coordinate of a place on both intervals of a run, if the run holds it.
+    fn add_across(&mut self, arena: &Arena, k: u64, place: Place) -> Result<(), Memory>
         requires marking { IsMarking arena.now.graph self.old.list.items self.old.rows }
         requires within { k < length arena.now.graph.runs }
-        ensures ok { OnOk result (Marks arena.now.graph (IsAcross arena.now.graph k coord) self.old self.new) }
-        ensures all { OnOk result ((v : Place) → IsAcross arena.now.graph k coord v → Contains self.new.list.items v) }
+        ensures ok { OnOk result (Marks arena.now.graph (IsAcross arena.now.graph k place.coord) self.old self.new) }
+        ensures all { OnOk result ((v : Place) → IsAcross arena.now.graph k place.coord v → Contains self.new.list.items v) }
     {
-        let counts = arena.counts();
-        let (a, b, span, _cost) = arena.run(k);
-        if coord < span.lo || span.hi < coord {
+        let _counts = arena.counts();
+        let (a, b, span, cost) = arena.run(k);
+        let run = Run { a, b, span, cost };
+        if !holds(run, place) {
             return Ok(());
         }
-        self.add(arena, Place { interval: a, coord })?;
-        self.add(arena, Place { interval: b, coord })?;
+        self.add(arena, moved(place, a))?;
+        self.add(arena, moved(place, b))?;
         Ok(())
     }
 
@@ -112,9 +142,17 @@ impl Marking {
     {
         let counts = arena.counts();
         'runs: for k in 0..counts[2] {
-            let (_a, _b, span, _cost) = arena.run(k);
-            self.add_across(arena, k, span.lo)?;
-            self.add_across(arena, k, span.hi)?;
+            let (a, _b, span, _cost) = arena.run(k);
+            let low = Place {
+                interval: a,
+                coord: span.lo,
+            };
+            let high = Place {
+                interval: a,
+                coord: span.hi,
+            };
+            self.add_across(arena, k, low)?;
+            self.add_across(arena, k, high)?;
         }
         Ok(())
     }
@@ -128,7 +166,7 @@ impl Marking {
         ensures all { OnOk result ((v : Place) → IsJoinedTo arena.now.graph place v → Contains self.new.list.items v) }
     {
         'runs: for k in arena.runs_of(place.interval) {
-            self.add_across(arena, *k, place.coord)?;
+            self.add_across(arena, *k, place)?;
         }
         Ok(())
     }

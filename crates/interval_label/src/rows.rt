@@ -1,11 +1,19 @@
 //! Rows by interval.
 ghost use Rattle.std.specs.Prelude.{◌≡◌, ◌<◌, length, [], IfOk, OnOk};
-ghost use Rattle.interval_label.specs.Known.{AreEmpty, HoldStops};
+ghost use Rattle.interval_label.specs.Known.{AreEmpty, HoldStops, row_at};
 ghost use Rattle.interval_label.specs.Task.{AreStops};
 
-use label_arena::{Arena, Place};
+use label_arena::{Arena, IntervalNo, Place};
 use rt_base::{Memory, Seq};
 use std::alloc::Global;
+
+/// The row of an interval.
+pub fn row_of<T>(rows: &Seq<Seq<T>>, no: IntervalNo) -> &[T]
+    requires { no.0 < length rows.now }
+    ensures { result.now ≡ row_at rows.now no.0 }
+{
+    rows.as_slice()[no.0 as usize].as_slice()
+}
 
 /// Empty rows, as many as the arena has intervals.
 pub fn empty_rows<T: Drop>(alloc: Global, arena: &Arena) -> Result<Seq<Seq<T>>, Memory>

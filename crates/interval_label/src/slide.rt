@@ -1,10 +1,11 @@
 //! What slides cost, and the bound at places.
-ghost use Rattle.std.specs.Prelude.{◌≡◌, ◌<◌, ◌^◌};
+ghost use Rattle.std.specs.Prelude.{◌≡◌, ◌<◌, ◌^◌, ◌≤ℤ◌};
+ghost use Rattle.std.specs.Bool.{OnFalse, OnTrue};
 ghost use Rattle.label_arena.specs.Plain.{gap, slide, IsInside};
 ghost use Rattle.interval_label.specs.Task.{left_at, IsPriced};
 
 use future_cost::Bound;
-use label_arena::{Arena, Place};
+use label_arena::{Arena, IntervalNo, Place, Run};
 
 /// How far apart the coordinates of two places are.
 fn apart(from: Place, to: Place) -> u64
@@ -23,6 +24,31 @@ pub fn along(arena: &Arena, from: Place, to: Place) -> u64
     ensures small { result < 2 ^ 60 }
 {
     arena.interval(from.interval).factor * apart(from, to)
+}
+
+/// The same coordinate of an interval.
+pub fn moved(place: Place, interval: IntervalNo) -> Place
+    ensures number { result.interval ≡ interval }
+    ensures coord { result.coord ≡ place.coord }
+{
+    Place {
+        interval,
+        coord: place.coord,
+    }
+}
+
+/// Whether a run's span holds the coordinate of a place.
+pub fn holds(run: Run, place: Place) -> bool
+    ensures yes { OnTrue result ((run.span.lo ≤ℤ place.coord) × (place.coord ≤ℤ run.span.hi)) }
+    ensures no { OnFalse result (run.span.lo ≤ℤ place.coord → place.coord ≤ℤ run.span.hi → ⊥) }
+{
+    if place.coord < run.span.lo {
+        return false;
+    }
+    if run.span.hi < place.coord {
+        return false;
+    }
+    true
 }
 
 /// The bound at a place.

@@ -1,7 +1,9 @@
 use Rattle.std.proofs.Common.{◌≡◌, ◌<◌, ◌+◌, ◌^◌, ◌≤◌, ℕ, ap, refl, arith}
+use Rattle.label_arena.specs.declared.place.IntervalNo.{IntervalNo}
 use Rattle.label_arena.specs.Plain.{slide}
 use Rattle.interval_label.specs.Task.{left_at}
 use Rattle.interval_label.specs.Search.{IsCrossed}
+use Rattle.interval_label.proofs.Costs.{interval_same}
 use Rattle.interval_label.proofs.Crossing.{key_crossed}
 use Rattle.interval_label.proofs.Queues.{gains_one}
 use Rattle.interval_label.proofs.Spreading.{way_small}
@@ -16,7 +18,7 @@ wait-requires-clause-small c = omega (arith, c.along.ensures.small, c.requires.c
 pub wait-requires-clause-floor : goal.wait-requires-clause-floor
 wait-requires-clause-floor c =
     let e : c.args.label.dist + c.along.result + c.args.cost ≡ c.args.label.dist + slide c.args.arena.now.graph c.args.label.place c.args.near.coord + c.args.cost = ap (λ n. c.args.label.dist + n + c.args.cost) c.along.ensures.value in
-    omega (arith, c.requires.can.floor, key_crossed c.args.arena.now.graph (left_at c.args.arena.now.graph c.args.bound.now) c.args.by c.requires.field.bounded.consistent c.args.label c.args.near c.args.far c.args.cost _ c.requires.can.label_in c.requires.can.near_in c.if-label-near.false c.requires.can.way e)
+    omega (arith, c.requires.can.floor, key_crossed c.args.arena.now.graph (left_at c.args.arena.now.graph c.args.bound.now) c.args.by c.requires.field.bounded.consistent c.args.label c.args.near c.args.far c.args.cost _ c.requires.can.label_in c.requires.can.near_in (interval_same _ _ c.if-label-near.false) c.requires.can.way e)
 
 pub returns-clause-ok : goal.returns-clause-ok
 returns-clause-ok c = record {
@@ -28,10 +30,19 @@ returns-clause-ok c = record {
     key = refl;
     near_in = c.requires.can.near_in;
     far_in = c.requires.can.far_in;
-    one_interval = c.if-label-near.false;
+    one_interval = (interval_same _ _ c.if-label-near.false);
     way = c.requires.can.way;
     dist = ap (λ n. c.args.label.dist + n + c.args.cost) c.along.ensures.value;
     origin = refl;
-    mark = c.requires.can.mark c.if-label-near.false;
+    mark = c.requires.can.mark (interval_same _ _ c.if-label-near.false);
   });
 }
+
+pub along-requires-clause-one_interval : goal.along-requires-clause-one_interval
+along-requires-clause-one_interval c = interval_same _ _ c.if-label-near.false
+
+pub returns-then-label-near-clause-covers : goal.returns-then-label-near-clause-covers
+returns-then-label-near-clause-covers c e = absurd (c.if-label-near.true (ap (λ (n : IntervalNo). n.0) e))
+
+pub returns-clause-covers : goal.returns-clause-covers
+returns-clause-covers c e = record { key = _; candidate = _; queued = c.in_ok-wait.ensures.ok.queue.has; place = refl; cheap = (let v : c.args.label.dist + c.along.result + c.args.cost ≡ c.args.label.dist + slide c.args.arena.now.graph c.args.label.place c.args.near.coord + c.args.cost = ap (λ n. c.args.label.dist + n + c.args.cost) c.along.ensures.value in omega (arith, v)) }
