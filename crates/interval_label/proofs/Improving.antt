@@ -1,4 +1,4 @@
-use Rattle.std.proofs.Common.{◌≡◌, ◌⊎◌, inl, inr, ℕ, ◌+◌, ◌<◌, ◌≤◌, sym, refl, ap, ◌∙◌, subst, List, length, Option, Some, slice_get, slice_index_or, Contains, arith, ⊎_elim}
+use Rattle.std.proofs.Common.{◌≡◌, ◌⊎◌, inl, inr, ℕ, pos, ◌+◌, ◌<◌, ◌≤◌, sym, refl, ap, ◌∙◌, subst, List, length, Option, Some, slice_get, slice_index_or, Contains, arith, ⊎_elim}
 use Rattle.std.proofs.lemmas.Bool.{cases_lt}
 use Rattle.std.proofs.lemmas.Option.{same_Some, slice_get_within, slice_get_read, slice_get-get_or}
 use Rattle.label_arena.specs.declared.place.Label.{Label}
@@ -13,6 +13,10 @@ use Rattle.interval_label.specs.declared.search.Best.{Best}
 -- k is one of the first i numbers
 abbrev pub IsBefore : List ℕ → ℕ → ℕ → Type 0
 IsBefore ks i k = (j : ℕ) × (j < i) × (slice_get ks j ≡ Some k)
+
+-- what a look-up beyond a list's end would read
+abbrev pub no_stop : Stop
+no_stop = (record { interval = record { 0 = 0 }; coord = pos 0 }, 0)
 
 module _ (g : Graph) (targets : List Stop) (x : Label) (number : ℕ) where
   pub improved_none : (ks : List ℕ) (best : Option Best) → IsImproved g targets x number (IsBefore ks 0) best best
