@@ -16,3 +16,4 @@ pub mod Counting
 pub mod Finishing
 pub mod Spreading
 pub mod Improving
+pub mod RowsOf

@@ -81,3 +81,9 @@ pub record IsAcross (g : Graph) (k : ℕ) (z : ℤ) (v : Place) : Type 0 where
 -- a run of the place's interval holds its coordinate and is on v's interval
 abbrev pub IsJoinedTo : Graph → Place → Place → Type 0
 IsJoinedTo g u v = (k : ℕ) × (((run : Run) × (slice_get g.runs k ≡ Some run) × ((run.a ≡ u.interval) ⊎ (run.b ≡ u.interval))) × IsAcross g k u.coord v)
+
+-- row n has one more item, and the others are as they were
+pub record RowGains {X : Type 0} (old new : List (List X)) (n : ℕ) (x : X) : Type 0 where
+  pub wide : length new ≡ length old
+  pub row : row_at new n ≡ row_at old n ++ x ∷ []
+  pub others : (k : ℕ) → (k ≡ n → ⊥) → row_at new k ≡ row_at old k

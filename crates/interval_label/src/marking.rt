@@ -6,7 +6,7 @@ ghost use Rattle.label_arena.specs.Marks.{IsStop, IsBridgeEnd, IsRunEnd};
 ghost use Rattle.interval_label.specs.Task.{AreStops};
 ghost use Rattle.interval_label.specs.Known.{IsMarking, Marks, IsAcross, IsJoinedTo};
 
-use crate::rows::empty_rows;
+use crate::rows::{add_to, empty_rows, row_of};
 use crate::slide::{holds, moved};
 use label_arena::{Arena, IntervalNo, Place, Run};
 use rt_base::{Memory, Seq};
@@ -78,12 +78,11 @@ impl Marking {
         ensures ok { OnOk result (Marks arena.now.graph (λ v. v ≡ place) self.old self.new) }
         ensures has { OnOk result (Contains self.new.list.items place) }
     {
-        let row = place.interval.0 as usize;
-        if has(self.rows.items[row].as_slice(), place) {
+        if has(row_of(&self.rows, place.interval), place) {
             return Ok(());
         }
         self.list.push(place)?;
-        self.rows.items[row].push(Mark::of(place))?;
+        add_to(&mut self.rows, place.interval, Mark::of(place))?;
         Ok(())
     }
 

@@ -1,6 +1,6 @@
 //! Rows by interval.
 ghost use Rattle.std.specs.Prelude.{◌≡◌, ◌<◌, length, [], IfOk, OnOk};
-ghost use Rattle.interval_label.specs.Known.{AreEmpty, HoldStops, row_at};
+ghost use Rattle.interval_label.specs.Known.{AreEmpty, HoldStops, RowGains, row_at};
 ghost use Rattle.interval_label.specs.Task.{AreStops};
 
 use label_arena::{Arena, IntervalNo, Place};
@@ -27,6 +27,15 @@ pub fn empty_rows<T: Drop>(alloc: Global, arena: &Arena) -> Result<Seq<Seq<T>>, 
     Ok(rows)
 }
 
+/// Adds an item to the row of an interval.
+pub fn add_to<T: Drop>(rows: &mut Seq<Seq<T>>, no: IntervalNo, item: T) -> Result<(), Memory>
+    requires { no.0 < length rows.old }
+    ensures ok { OnOk result (RowGains rows.old rows.new no.0 item) }
+{
+    rows.items[no.0 as usize].push(item)?;
+    Ok(())
+}
+
 /// The numbers of the targets on each interval.
 pub fn stops_of(alloc: Global, arena: &Arena, targets: &[(Place, u64)]) -> Result<Seq<Seq<u64>>, Memory>
     requires { AreStops arena.now.graph targets.now }
@@ -35,7 +44,7 @@ pub fn stops_of(alloc: Global, arena: &Arena, targets: &[(Place, u64)]) -> Resul
     let mut rows = empty_rows(alloc, arena)?;
     'targets: for k in 0..targets.len() {
         let (place, _own) = targets[k];
-        rows.items[place.interval.0 as usize].push(k as u64)?;
+        add_to(&mut rows, place.interval, k as u64)?;
     }
     Ok(rows)
 }
