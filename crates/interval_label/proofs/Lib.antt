@@ -17,3 +17,5 @@ pub mod Finishing
 pub mod Spreading
 pub mod Improving
 pub mod RowsOf
+pub mod Stepping
+pub mod Finding
