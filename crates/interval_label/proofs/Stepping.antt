@@ -9,7 +9,7 @@ use Rattle.bucket_queue.specs.Bag.{Bag}
 use Rattle.future_cost.specs.Under.{Hull}
 use Rattle.interval_label.specs.Task.{Stop, left_at}
 use Rattle.interval_label.specs.Answers.{AreApart}
-use Rattle.interval_label.specs.Known.{Rows}
+use Rattle.interval_label.specs.Known.{Rows, KnowsMarks, IsWide}
 use Rattle.interval_label.specs.Queue.{Queued, AreInside, Gains}
 use Rattle.interval_label.specs.Search.{IsField, AreSettled, CanSpread, Takes, Ends, IsExplained, IsCrossed, Grows, Spreads, IsImproved}
 use Rattle.interval_label.specs.State.{IsTask, IsLabel, IsRunning, IsFinished, Puts, most_places}
@@ -103,3 +103,10 @@ pub spread_at : (g h : Graph) (hull : Hull) (old new : Search) (x : Label) → h
 spread_at g h hull old new x e q can =
     let c : CanSpread g (left_at g hull) new x = record { label_in = can.label_in; small = can.small; floor = omega (arith, can.floor, ap (λ (b : Bag Label). b.floor) q) } in
     subst (λ (k : Graph). CanSpread k (left_at k hull) new x) (sym e) c
+
+pub is_wide : (g : Graph) (sources targets : List Stop) (known : Option Rows) → KnowsMarks g sources targets known → IsWide g known
+is_wide g sources targets None k rows e = absurd (clash rows e)
+  where
+    clash : (rows : Rows) → None ≡ Some rows → ⊥
+    clash rows e = cc
+is_wide g sources targets (Some held) k rows e = subst (λ (r : Rows). length r ≡ length g.intervals) (same_Some held rows e) k.wide
