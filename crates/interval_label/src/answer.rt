@@ -1,5 +1,5 @@
 //! The answer of a search.
-ghost use Rattle.std.specs.Prelude.{◌≡◌, ◌+◌, ◌++◌, ◌∷◌, ◌<◌, ◌≤◌, ◌^◌, length, [], OnOk, IfOk, IfSome, IfNone, true};
+ghost use Rattle.std.specs.Prelude.{◌≡◌, ◌+◌, ◌++◌, ◌∷◌, ◌<◌, ◌≤◌, ◌^◌, length, [], OnOk, IfOk, IfSome, IfNone, true, slice_get, Some};
 ghost use Rattle.label_arena.specs.Plain.{IsInside};
 ghost use Rattle.interval_label.specs.Task.{left_at, IsPriced, IsBounded, AreStops, EndsAt, AreNear};
 ghost use Rattle.interval_label.specs.Answers.{IsAnswer, AreLeast, ExplainsMarks, AreBelow};
@@ -128,6 +128,14 @@ fn label_at(arena: &Arena, place: Place) -> Option<LabelNo>
     }
 }
 
+/// The stop with a number.
+fn stop_at(stops: &[(Place, u64)], k: u64) -> (Place, u64)
+    requires { k < length stops.now }
+    ensures { slice_get stops.now k ≡ Some result }
+{
+    stops[k as usize]
+}
+
 /// The answer, with a label at the target's place.
 fn finish<L: Ledger>(
     arena: &mut Arena,
@@ -153,7 +161,7 @@ fn finish<L: Ledger>(
     };
     let cost = best.cost;
     let target = best.target;
-    let (place, _own) = targets[target as usize];
+    let place = stop_at(targets, target).0;
     if let Some(label) = label_at(arena, place) {
         return Ok(Reached::Cost { cost, target, label });
     }
