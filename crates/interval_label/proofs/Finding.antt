@@ -10,7 +10,7 @@ use Rattle.interval_label.specs.State.{IsAt, NoneAt}
 use Rattle.interval_label.proofs.Sliding.{at}
 use Rattle.interval_label.proofs.Costs.{interval_same}
 
-same_place : (u v : Place) → u.interval.0 ≡ v.interval.0 → u.coord ≡ v.coord → u ≡ v
+pub same_place : (u v : Place) → u.interval.0 ≡ v.interval.0 → u.coord ≡ v.coord → u ≡ v
 same_place u v i e = ap (λ (n : IntervalNo). at n u.coord) (interval_same u.interval v.interval i) ∙ ap (λ (z : ℤ). at v.interval z) e
 
 label_of : (ls : List Label) (v : Place) (k : ℕ) (x : Label) → slice_get ls k ≡ Some x → x.place ≡ v → IsLabelOf ls v.interval.0 k x

@@ -19,3 +19,4 @@ pub mod Improving
 pub mod RowsOf
 pub mod Stepping
 pub mod Finding
+pub mod MarkList

@@ -5,6 +5,7 @@ use Rattle.label_arena.specs.declared.place.Run.{Run}
 use Rattle.label_arena.specs.Lists.{Graph}
 use Rattle.label_arena.specs.Plain.{factor_at, IsInside, IsRunWay}
 use Rattle.label_arena.specs.Marks.{IsMark}
+use Rattle.label_arena.specs.Ways.{IsRunOf}
 use Rattle.interval_label.specs.Task.{Stop}
 use Rattle.interval_label.specs.declared.marking.Marking.{Marking}
 use Rattle.interval_label.specs.declared.marking.Mark.{Mark}
@@ -78,9 +79,9 @@ pub record IsAcross (g : Graph) (k : ℕ) (z : ℤ) (v : Place) : Type 0 where
   pub on : (v.interval ≡ run.a) ⊎ (v.interval ≡ run.b)
   pub coord : v.coord ≡ z
 
--- a run of the place's interval holds its coordinate and is on v's interval
+-- a run of u's interval holds its coordinate, and v is there on one of its intervals
 abbrev pub IsJoinedTo : Graph → Place → Place → Type 0
-IsJoinedTo g u v = (k : ℕ) × (((run : Run) × (slice_get g.runs k ≡ Some run) × ((run.a ≡ u.interval) ⊎ (run.b ≡ u.interval))) × IsAcross g k u.coord v)
+IsJoinedTo g u v = (k : ℕ) × IsRunOf g u.interval.0 k × IsAcross g k u.coord v
 
 -- row n has one more item, and the others are as they were
 pub record RowGains {X : Type 0} (old new : List (List X)) (n : ℕ) (x : X) : Type 0 where

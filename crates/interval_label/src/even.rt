@@ -1,9 +1,10 @@
 //! Whether marks have to be known.
 ghost use Rattle.std.specs.Prelude.{◌≡◌, ◌<◌, length};
 ghost use Rattle.std.specs.Bool.{OnTrue};
-ghost use Rattle.label_arena.specs.Plain.{factor_at};
+ghost use Rattle.label_arena.specs.Plain.{factor_at, IsJoined};
 ghost use Rattle.interval_label.specs.Known.{AreEven};
 
+use crate::slide::run_of;
 use label_arena::{Arena, IntervalNo};
 
 /// What a step costs on an interval.
@@ -16,12 +17,15 @@ pub fn factor(arena: &Arena, no: IntervalNo) -> u64
 
 /// Whether each run joins intervals of one factor.
 pub fn is_even(arena: &Arena) -> bool
+    requires { IsJoined arena.now.graph }
     ensures { OnTrue result (AreEven arena.now.graph) }
 {
     let counts = arena.counts();
     'runs: for k in 0..counts[2] {
-        let (a, b, _span, _cost) = arena.run(k);
-        if factor(arena, a) != factor(arena, b) {
+        let run = run_of(arena, k);
+        let near = factor(arena, run.a);
+        let far = factor(arena, run.b);
+        if near != far {
             return false;
         }
     }

@@ -1,5 +1,6 @@
 //! The marks of an arena.
 ghost use Rattle.std.specs.Prelude.{◌≡◌, IfOk, true};
+ghost use Rattle.label_arena.specs.Plain.{IsJoined};
 ghost use Rattle.interval_label.specs.Task.{AreStops};
 ghost use Rattle.interval_label.specs.Known.{KnowsMarks};
 
@@ -17,6 +18,7 @@ pub fn known_marks(
     sources: &[(Place, u64)],
     targets: &[(Place, u64)],
 ) -> Result<Option<Seq<Seq<Mark>>>, Memory>
+    requires joined { IsJoined arena.now.graph }
     requires sources { AreStops arena.now.graph sources.now }
     requires targets { AreStops arena.now.graph targets.now }
     requires indexed { arena.now.indexed ≡ true }

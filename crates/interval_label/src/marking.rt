@@ -1,14 +1,14 @@
 //! Marks that were found so far.
 ghost use Rattle.std.specs.Prelude.{◌≡◌, ◌<◌, length, OnOk, IfOk, Contains, [], true};
 ghost use Rattle.std.specs.Bool.{OnFalse, OnTrue};
-ghost use Rattle.label_arena.specs.Plain.{IsInside};
+ghost use Rattle.label_arena.specs.Plain.{IsInside, IsJoined};
 ghost use Rattle.label_arena.specs.Marks.{IsStop, IsBridgeEnd, IsRunEnd};
 ghost use Rattle.interval_label.specs.Task.{AreStops};
 ghost use Rattle.interval_label.specs.Known.{IsMarking, Marks, IsAcross, IsJoinedTo};
 
 use crate::rows::{add_to, empty_rows, row_of};
-use crate::slide::{holds, moved};
-use label_arena::{Arena, IntervalNo, Place, Run};
+use crate::slide::{high_end, holds, is_at, low_end, moved, run_of};
+use label_arena::{Arena, IntervalNo, Place};
 use rt_base::{Memory, Seq};
 use std::alloc::Global;
 
@@ -49,9 +49,9 @@ fn has(row: &[Mark], place: Place) -> bool
     ensures yes { OnTrue result (Contains row.now (record { coord = place.coord })) }
     ensures no { OnFalse result (Contains row.now (record { coord = place.coord }) → ⊥) }
 {
-    'row: for k in 0..row.len() {
-        let mark = row[k];
-        if mark.coord == place.coord {
+    'row: for mark in row {
+        let other = mark.on(place.interval);
+        if is_at(other, place) {
             return true;
         }
     }
@@ -108,9 +108,9 @@ impl Marking {
     {
         let counts = arena.counts();
         'bridges: for k in 0..counts[1] {
-            let (a, b, _cost, _tag) = arena.point(k);
-            self.add(arena, a)?;
-            self.add(arena, b)?;
+            let point = arena.point(k);
+            self.add(arena, point.0)?;
+            self.add(arena, point.1)?;
         }
         Ok(())
     }
@@ -118,18 +118,17 @@ impl Marking {
     /// Adds the coordinate of a place on both intervals of a run, if the run holds it.
     fn add_across(&mut self, arena: &Arena, k: u64, place: Place) -> Result<(), Memory>
         requires marking { IsMarking arena.now.graph self.old.list.items self.old.rows }
+        requires joined { IsJoined arena.now.graph }
         requires within { k < length arena.now.graph.runs }
         ensures ok { OnOk result (Marks arena.now.graph (IsAcross arena.now.graph k place.coord) self.old self.new) }
         ensures all { OnOk result ((v : Place) → IsAcross arena.now.graph k place.coord v → Contains self.new.list.items v) }
     {
-        let _counts = arena.counts();
-        let (a, b, span, cost) = arena.run(k);
-        let run = Run { a, b, span, cost };
+        let run = run_of(arena, k);
         if !holds(run, place) {
             return Ok(());
         }
-        self.add(arena, moved(place, a))?;
-        self.add(arena, moved(place, b))?;
+        self.add(arena, moved(place, run.a))?;
+        self.add(arena, moved(place, run.b))?;
         Ok(())
     }
 
@@ -141,17 +140,9 @@ impl Marking {
     {
         let counts = arena.counts();
         'runs: for k in 0..counts[2] {
-            let (a, _b, span, _cost) = arena.run(k);
-            let low = Place {
-                interval: a,
-                coord: span.lo,
-            };
-            let high = Place {
-                interval: a,
-                coord: span.hi,
-            };
-            self.add_across(arena, k, low)?;
-            self.add_across(arena, k, high)?;
+            let run = run_of(arena, k);
+            self.add_across(arena, k, low_end(run))?;
+            self.add_across(arena, k, high_end(run))?;
         }
         Ok(())
     }
@@ -159,6 +150,7 @@ impl Marking {
     /// Adds what runs join to a place.
     pub fn follow(&mut self, arena: &Arena, place: Place) -> Result<(), Memory>
         requires marking { IsMarking arena.now.graph self.old.list.items self.old.rows }
+        requires joined { IsJoined arena.now.graph }
         requires inside { IsInside arena.now.graph place }
         requires indexed { arena.now.indexed ≡ true }
         ensures ok { OnOk result (Marks arena.now.graph (IsJoinedTo arena.now.graph place) self.old self.new) }

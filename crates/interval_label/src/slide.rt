@@ -1,5 +1,5 @@
 //! What slides cost, and the bound at places.
-ghost use Rattle.std.specs.Prelude.{◌≡◌, ◌<◌, ◌^◌, ◌≤ℤ◌};
+ghost use Rattle.std.specs.Prelude.{◌≡◌, ◌<◌, ◌^◌, ◌≤ℤ◌, length, slice_get, Some};
 ghost use Rattle.std.specs.Bool.{OnFalse, OnTrue};
 ghost use Rattle.label_arena.specs.Plain.{gap, slide, IsInside};
 ghost use Rattle.interval_label.specs.Task.{left_at, IsPriced};
@@ -35,6 +35,46 @@ pub fn moved(place: Place, interval: IntervalNo) -> Place
         interval,
         coord: place.coord,
     }
+}
+
+/// The run with a number.
+pub fn run_of(arena: &Arena, k: u64) -> Run
+    requires { k < length arena.now.graph.runs }
+    ensures { slice_get arena.now.graph.runs k ≡ Some result }
+{
+    let (a, b, span, cost) = arena.run(k);
+    Run { a, b, span, cost }
+}
+
+/// The low end of a run on its first interval.
+pub fn low_end(run: Run) -> Place
+    ensures { result.coord ≡ run.span.lo }
+{
+    Place {
+        interval: run.a,
+        coord: run.span.lo,
+    }
+}
+
+/// The high end of a run on its first interval.
+pub fn high_end(run: Run) -> Place
+    ensures { result.coord ≡ run.span.hi }
+{
+    Place {
+        interval: run.a,
+        coord: run.span.hi,
+    }
+}
+
+/// Whether two coordinates are the same.
+pub fn is_at(mark: Place, place: Place) -> bool
+    ensures yes { OnTrue result (mark.coord ≡ place.coord) }
+    ensures no { OnFalse result (mark.coord ≡ place.coord → ⊥) }
+{
+    if mark.coord == place.coord {
+        return true;
+    }
+    false
 }
 
 /// Whether a run's span holds the coordinate of a place.
