@@ -1,5 +1,5 @@
-use Rattle.std.proofs.Common.{◌≡◌, ◌⊎◌, inl, inr, ℕ, zero, suc, ◌+◌, ◌-◌, ◌<◌, ◌≤◌, ℤ, ◌≤ℤ◌, sym, refl, ap, ◌∙◌, subst, List, [], ◌∷◌, ◌++◌, length, Option, Some, None, slice_get, Contains, arith, ⊎_elim}
-use Rattle.std.proofs.lemmas.Option.{same_Some, slice_get_within, slice_get_read, get_or_from_slice_get}
+use Rattle.std.proofs.Common.{◌≡◌, ◌⊎◌, inl, inr, ℕ, zero, suc, ◌+◌, ◌-◌, ◌<◌, ◌≤◌, ℤ, ◌≤ℤ◌, sym, refl, ap, ◌∙◌, subst, List, [], ◌∷◌, ◌++◌, length, Option, Some, None, slice_get, slice_index_or, Contains, arith, ⊎_elim}
+use Rattle.std.proofs.lemmas.Option.{same_Some, slice_get_within, slice_get_read, slice_get-get_or, get_or_from_slice_get}
 use Rattle.std.proofs.lemmas.List.Elements.{Contains-append_left, Contains-append_right, Contains-append_cases}
 use Rattle.label_arena.specs.declared.place.Place.{Place}
 use Rattle.label_arena.specs.declared.place.IntervalNo.{IntervalNo}
@@ -208,3 +208,9 @@ run_inside g k run z joined is l h v e on =
 
 pub run_numbers : (g : Graph) (k : ℕ) (run : Run) → IsJoined g → slice_get g.runs k ≡ Some run → (run.a.0 < length g.intervals) × (run.b.0 < length g.intervals)
 run_numbers g k run joined is = let r : IsRun g.intervals run = joined.runs k run is in (slice_get_within g.intervals run.a.0 r.a r.a_at, slice_get_within g.intervals run.b.0 r.b r.b_at)
+
+-- what stands at a place of the longer list stood there before
+pub before : (old new : List Place) (k : ℕ) (v : Place) → ((k : ℕ) (v : Place) → slice_get old k ≡ Some v → slice_get new k ≡ Some v) → k < length old → slice_get new k ≡ Some v → slice_get old k ≡ Some v
+before old new k v keeps l h =
+    let here : slice_get old k ≡ Some (slice_index_or old k v) = slice_get-get_or old k v l in
+    here ∙ ap Some (same_Some (slice_index_or old k v) v (sym (keeps k (slice_index_or old k v) here) ∙ h))

@@ -4,12 +4,12 @@ use Rattle.label_arena.specs.declared.place.Place.{Place}
 use Rattle.label_arena.specs.declared.place.Label.{Label}
 use Rattle.label_arena.specs.declared.place.LabelNo.{LabelNo}
 use Rattle.label_arena.specs.Lists.{Graph}
-use Rattle.label_arena.specs.Plain.{IsInside, Reaches}
+use Rattle.label_arena.specs.Plain.{IsInside, IsJoined, Reaches}
 use Rattle.bucket_queue.specs.Bag.{Bag}
 use Rattle.future_cost.specs.Under.{Hull}
-use Rattle.interval_label.specs.Task.{Stop, left_at}
+use Rattle.interval_label.specs.Task.{Stop, left_at, IsPriced, IsBounded, AreStops, EndsAt, AreNear}
 use Rattle.interval_label.specs.Answers.{AreApart}
-use Rattle.interval_label.specs.Known.{Rows, KnowsMarks, IsWide}
+use Rattle.interval_label.specs.Known.{Rows, KnowsMarks, HoldStops, IsWide}
 use Rattle.interval_label.specs.Queue.{Queued, AreInside, Gains}
 use Rattle.interval_label.specs.Search.{IsField, AreSettled, CanSpread, Takes, Ends, IsExplained, IsCrossed, Grows, Spreads, IsImproved}
 use Rattle.interval_label.specs.State.{IsTask, IsLabel, IsRunning, IsFinished, Puts, most_places}
@@ -38,7 +38,7 @@ few_labels g ls inside apart =
     } in
     omega (arith, few_places g (map (λ (x : Label). x.place) ls) once, length_places ls)
 
-less_left : (m n k : ℕ) → k ≡ n + 1 → k ≤ m → m - k < m - n
+pub less_left : (m n k : ℕ) → k ≡ n + 1 → k ≤ m → m - k < m - n
 less_left m n k e h = omega (arith, e, h)
 
 module _ (g : Graph) (sources targets : List Stop) (b : Place → ℕ) (known : Option Rows) (stops : List (List ℕ)) (task : IsTask g sources targets b known stops) (ls : List Label) (old : Search) (run : IsRunning g sources targets b known ls old.queue.pairs old.best) where
@@ -110,3 +110,15 @@ is_wide g sources targets None k rows e = absurd (clash rows e)
     clash : (rows : Rows) → None ≡ Some rows → ⊥
     clash rows e = cc
 is_wide g sources targets (Some held) k rows e = subst (λ (r : Rows). length r ≡ length g.intervals) (same_Some held rows e) k.wide
+
+-- what is asked of a search, with what is known of its graph
+pub task_from : (g h : Graph) (sources targets : List Stop) (hull : Hull) (known : Option Rows) (stops : List (List ℕ)) → h ≡ g → IsJoined h → IsPriced g → IsBounded g (left_at g hull) → AreStops g sources → AreStops g targets → EndsAt (left_at g hull) targets → AreNear g sources → KnowsMarks h sources targets known → HoldStops h targets stops → IsTask h sources targets (left_at h hull) known stops
+task_from g h sources targets hull known stops e joined priced bounded ss ts ends near knows held = record {
+  field = record { joined = joined; priced = subst (λ (k : Graph). IsPriced k) (sym e) priced; bounded = subst (λ (k : Graph). IsBounded k (left_at k hull)) (sym e) bounded };
+  sources_are = subst (λ (k : Graph). AreStops k sources) (sym e) ss;
+  targets_are = subst (λ (k : Graph). AreStops k targets) (sym e) ts;
+  ends = subst (λ (k : Graph). EndsAt (left_at k hull) targets) (sym e) ends;
+  near = subst (λ (k : Graph). AreNear k sources) (sym e) near;
+  knows = knows;
+  stops_are = held;
+}
