@@ -1,0 +1,1 @@
+//! The labels of one interval, in the order of their coordinates.
