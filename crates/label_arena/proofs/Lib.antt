@@ -1,0 +1,5 @@
+pub mod Lists
+pub mod Numbers
+pub mod Grouping
+pub mod Ending
+pub mod Sorting

@@ -1,6 +1,5 @@
 -- What an arena keeps beside its lists.
-use Rattle.std.specs.Prelude.{◌≡◌, ℕ, ◌+◌, ◌<◌, ◌≤◌, ◌≤ℤ◌, ◌==◌, if◌then◌else◌, true, Bool, List, [], ◌∷◌, length, slice_get, Some, Contains, All}
-use Rattle.smallvec.specs.declared.small_vec.SmallVec.{SmallVec}
+use Rattle.std.specs.Prelude.{◌≡◌, ℕ, ◌+◌, ◌<◌, ◌≤◌, ◌==◌, if◌then◌else◌, true, Bool, List, [], ◌∷◌, length, slice_get, Some}
 use Rattle.label_arena.specs.declared.place.Bridge.{Bridge}
 use Rattle.label_arena.specs.declared.place.Run.{Run}
 use Rattle.label_arena.specs.declared.place.Label.{Label}
@@ -8,7 +7,7 @@ use Rattle.label_arena.specs.declared.group.End.{End}
 use Rattle.label_arena.specs.declared.group.Group.{Group}
 use Rattle.label_arena.specs.Lists.{Graph}
 use Rattle.label_arena.specs.Plain.{IsInside, IsJoined}
-use Rattle.label_arena.specs.Ways.{IsLabelOf}
+use Rattle.label_arena.specs.Rows.{AreRows}
 use Rattle.label_arena.specs.Groups.{IsGrouped}
 
 -- the ends of bridges, numbered from k on; a bridge with both ends on one interval counts once
@@ -26,15 +25,6 @@ run_ends k (r ∷ rs) = ends_of r.a.0 r.b.0 k (run_ends (k + 1) rs)
 -- each label stands on an interval
 abbrev pub AreInside : Graph → List Label → Type 0
 AreInside g ls = (k : ℕ) (x : Label) → slice_get ls k ≡ Some x → IsInside g x.place
-
--- the numbers of exactly the labels of interval n, by their coordinates
-pub record IsRow (ls : List Label) (n : ℕ) (row : List ℕ) : Type 0 where
-  pub only : (k : ℕ) → Contains row k → (x : Label) × IsLabelOf ls n k x
-  pub every : (k : ℕ) (x : Label) → IsLabelOf ls n k x → Contains row k
-  pub sorted : (i j k l : ℕ) (x y : Label) → i ≤ j → slice_get row i ≡ Some k → slice_get row j ≡ Some l → slice_get ls k ≡ Some x → slice_get ls l ≡ Some y → x.place.coord ≤ℤ y.place.coord
-
-abbrev pub AreRows : List Label → List (List ℕ) → Type 0
-AreRows ls rows = (n : ℕ) (row : List ℕ) → slice_get rows n ≡ Some row → IsRow ls n row
 
 -- the index tells the bridges and runs of each interval
 pub record IsIndexed (g : Graph) (bridges runs : Group) : Type 0 where

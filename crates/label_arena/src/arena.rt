@@ -2,8 +2,10 @@
 ghost use Rattle.std.specs.Prelude.{◌≡◌, ◌+◌, ◌++◌, ◌∷◌, [], length, true, false, OnOk, OnErr, IfOk};
 ghost use Rattle.label_arena.specs.Plain.{IsInside, IsIn, IsRun};
 
+use crate::ends::{end_bridges, end_runs};
 use crate::group::{End, Group};
 use crate::place::{Bridge, Interval, IntervalNo, Label, LabelNo, Place, Run};
+use crate::row::{clear_all, count_below, insert};
 use crate::steps::Steps;
 use rt_base::{Memory, Span};
 use smallvec::SmallVec;
@@ -29,16 +31,15 @@ pub struct Arena {
 }
 
 impl Model for Arena {
-    ghost use Rattle.std.specs.Prelude.{map};
-    ghost use Rattle.smallvec.specs.declared.small_vec.SmallVec.{SmallVec as Small};
     ghost use Rattle.label_arena.specs.Lists.{Lists};
     ghost use Rattle.label_arena.specs.Keeping.{IsKept};
+    ghost use Rattle.label_arena.specs.Rows.{rows_of};
 
     ghost Value = { Lists };
 
     ghost view = { λ a. record { graph = record { intervals = a.intervals.items; bridges = a.bridges.items; runs = a.runs.items }; labels = a.labels.items; indexed = a.indexed } };
 
-    ghost invariant = { λ a. IsKept (record { intervals = a.intervals.items; bridges = a.bridges.items; runs = a.runs.items }) a.labels.items (map (λ r. r.items) a.rows.items) a.indexed a.bridges_by a.runs_by };
+    ghost invariant = { λ a. IsKept (record { intervals = a.intervals.items; bridges = a.bridges.items; runs = a.runs.items }) a.labels.items (rows_of a.rows.items) a.indexed a.bridges_by a.runs_by };
 }
 
 impl Arena {
@@ -121,7 +122,13 @@ impl Arena {
         if self.indexed {
             return Ok(());
         }
-        Err(Memory)
+        let count = self.intervals.len();
+        end_bridges(&mut self.ends, &self.bridges)?;
+        self.bridges_by.fill(count, &self.ends)?;
+        end_runs(&mut self.ends, &self.runs)?;
+        self.runs_by.fill(count, &self.ends)?;
+        self.indexed = true;
+        Ok(())
     }
 
     /// Adds a label at a place of the arena, answers its number, and counts one step. After `Memory`
@@ -137,7 +144,13 @@ impl Arena {
         ensures uncounted { OnErr result (steps.new ≡ steps.old) }
     {
         let number = self.labels.len() as u64;
+        let row = label.place.interval.0 as usize;
+        let at = count_below(&self.labels, self.rows[row].as_slice(), label.place.coord);
         self.labels.push(label)?;
+        if insert(&mut self.rows, row, at, number).is_err() {
+            let _ = self.labels.pop();
+            return Err(Memory);
+        }
         steps.count();
         Ok(LabelNo(number))
     }
@@ -154,6 +167,7 @@ impl Arena {
         self.bridges.clear();
         self.runs.clear();
         self.labels.clear();
+        clear_all(&mut self.rows);
         self.indexed = false;
     }
 }

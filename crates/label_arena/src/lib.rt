@@ -12,6 +12,7 @@
 #![tactic(auto)]
 
 mod arena;
+mod ends;
 mod group;
 mod place;
 mod read;

@@ -5,6 +5,7 @@ ghost use Rattle.label_arena.specs.Keeping.{AreInside};
 ghost use Rattle.label_arena.specs.Ways.{AreExactly, IsBridgeOf, IsRunOf, IsBelow, IsAbove};
 
 use crate::arena::Arena;
+use crate::row::{count_below, count_up_to};
 use crate::place::{Interval, IntervalNo, Label, LabelNo, Place};
 use rt_base::{Point, Span, Vertex};
 
@@ -110,8 +111,12 @@ impl Arena {
         requires { place.interval.0 < length self.now.graph.intervals }
         ensures { IsBelow self.now.labels place result }
     {
-        let _ = place;
-        None
+        let row = self.rows[place.interval.0 as usize].as_slice();
+        let past = count_up_to(&self.labels, row, place.coord);
+        if past == 0 {
+            return None;
+        }
+        Some(LabelNo(row[past - 1]))
     }
 
     /// The label of the place's interval that is next to the place: at it or above it.
@@ -119,7 +124,11 @@ impl Arena {
         requires { place.interval.0 < length self.now.graph.intervals }
         ensures { IsAbove self.now.labels place result }
     {
-        let _ = place;
-        None
+        let row = self.rows[place.interval.0 as usize].as_slice();
+        let at = count_below(&self.labels, row, place.coord);
+        if at == row.len() {
+            return None;
+        }
+        Some(LabelNo(row[at]))
     }
 }
