@@ -3,3 +3,5 @@ pub mod Numbers
 pub mod Grouping
 pub mod Ending
 pub mod Sorting
+pub mod Inserting
+pub mod Keeping

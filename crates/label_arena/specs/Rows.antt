@@ -1,5 +1,5 @@
 -- The labels of one interval, in the order of their coordinates.
-use Rattle.std.specs.Prelude.{◌≡◌, ℕ, ◌<◌, ◌≤◌, ℤ, pos, ◌≤ℤ◌, List, map, length, slice_get, slice_index, Some, option_map, unwrap_or}
+use Rattle.std.specs.Prelude.{◌≡◌, ℕ, ◌<◌, ◌≤◌, ℤ, pos, ◌≤ℤ◌, List, [], map, length, slice_get, slice_index, Some, option_map, unwrap_or}
 use Rattle.std.specs.Global.{Global}
 use Rattle.smallvec.specs.declared.small_vec.SmallVec.{SmallVec}
 use Rattle.label_arena.specs.declared.place.Label.{Label}
@@ -8,6 +8,10 @@ use Rattle.label_arena.specs.Ways.{IsLabelOf}
 -- the numbers in each row
 abbrev pub rows_of : List (SmallVec ℕ 2 Global) → List (List ℕ)
 rows_of rs = map (λ (r : SmallVec ℕ 2 Global). r.items) rs
+
+-- the numbers in row i
+abbrev pub row_at : List (SmallVec ℕ 2 Global) → ℕ → List ℕ
+row_at rs i = unwrap_or (slice_get (rows_of rs) i) []
 
 -- where label k stands on its interval
 abbrev pub coord_of : List Label → ℕ → ℤ

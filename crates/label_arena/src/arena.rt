@@ -145,7 +145,7 @@ impl Arena {
     {
         let number = self.labels.len() as u64;
         let row = label.place.interval.0 as usize;
-        let at = count_below(&self.labels, self.rows[row].as_slice(), label.place.coord);
+        let at = count_below(&self.labels, self.rows[row].as_slice(), label.place);
         self.labels.push(label)?;
         if insert(&mut self.rows, row, at, number).is_err() {
             let _ = self.labels.pop();

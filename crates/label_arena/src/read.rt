@@ -112,7 +112,7 @@ impl Arena {
         ensures { IsBelow self.now.labels place result }
     {
         let row = self.rows[place.interval.0 as usize].as_slice();
-        let past = count_up_to(&self.labels, row, place.coord);
+        let past = count_up_to(&self.labels, row, place);
         if past == 0 {
             return None;
         }
@@ -125,7 +125,7 @@ impl Arena {
         ensures { IsAbove self.now.labels place result }
     {
         let row = self.rows[place.interval.0 as usize].as_slice();
-        let at = count_below(&self.labels, row, place.coord);
+        let at = count_below(&self.labels, row, place);
         if at == row.len() {
             return None;
         }

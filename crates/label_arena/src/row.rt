@@ -1,24 +1,43 @@
 //! The labels of one interval, in the order of their coordinates.
-ghost use Rattle.std.specs.Prelude.{◌≡◌, ℕ, ◌<◌, ◌≤◌, ◌≤ℤ◌, ◌<ℤ◌, length, slice_get, slice_index, slice_set, Some, List, [], OnOk, OnErr, All};
+ghost use Rattle.std.specs.Prelude.{◌≡◌, ℕ, ◌<◌, ◌≤◌, ◌≤ℤ◌, ◌<ℤ◌, length, slice_set, [], OnOk, OnErr, All};
+ghost use Rattle.std.specs.Bool.{OnFalse, OnTrue};
 ghost use Rattle.std.specs.List.{insert as inserted};
-ghost use Rattle.label_arena.specs.Rows.{IsSorted, coord_at, rows_of};
+ghost use Rattle.label_arena.specs.Rows.{IsSorted, coord_at, coord_of, row_at, rows_of};
 
-use crate::place::Label;
+use crate::place::{Label, Place};
 use rt_base::Memory;
 use smallvec::SmallVec;
 
-/// How many labels of a row stand below a coordinate.
-pub fn count_below(labels: &[Label], row: &[u64], coord: i64) -> usize
+/// Whether a label stands below a place of its interval.
+fn is_below(labels: &[Label], no: u64, place: Place) -> bool
+    requires { no < length labels.now }
+    ensures yes { OnTrue result (coord_of labels.now no <ℤ place.coord) }
+    ensures not { OnFalse result (place.coord ≤ℤ coord_of labels.now no) }
+{
+    labels[no as usize].place.coord < place.coord
+}
+
+/// Whether a label stands above a place of its interval.
+fn is_above(labels: &[Label], no: u64, place: Place) -> bool
+    requires { no < length labels.now }
+    ensures yes { OnTrue result (place.coord <ℤ coord_of labels.now no) }
+    ensures not { OnFalse result (coord_of labels.now no ≤ℤ place.coord) }
+{
+    place.coord < labels[no as usize].place.coord
+}
+
+/// How many labels of a row stand below a place of their interval.
+pub fn count_below(labels: &[Label], row: &[u64], place: Place) -> usize
     requires { IsSorted labels.now row.now }
     ensures within { result ≤ length row.now }
-    ensures before { (i : ℕ) → i < result → coord_at labels.now row.now i <ℤ coord }
-    ensures after { (i : ℕ) → result ≤ i → i < length row.now → coord ≤ℤ coord_at labels.now row.now i }
+    ensures before { (i : ℕ) → i < result → coord_at labels.now row.now i <ℤ place.coord }
+    ensures after { (i : ℕ) → result ≤ i → i < length row.now → place.coord ≤ℤ coord_at labels.now row.now i }
 {
     let mut low = 0;
     let mut high = row.len();
     'halves: while low < high {
         let middle = low + (high - low) / 2;
-        if labels[row[middle] as usize].place.coord < coord {
+        if is_below(labels, row[middle], place) {
             low = middle + 1;
         } else {
             high = middle;
@@ -27,21 +46,21 @@ pub fn count_below(labels: &[Label], row: &[u64], coord: i64) -> usize
     low
 }
 
-/// How many labels of a row stand at a coordinate or below it.
-pub fn count_up_to(labels: &[Label], row: &[u64], coord: i64) -> usize
+/// How many labels of a row stand at a place of their interval or below it.
+pub fn count_up_to(labels: &[Label], row: &[u64], place: Place) -> usize
     requires { IsSorted labels.now row.now }
     ensures within { result ≤ length row.now }
-    ensures before { (i : ℕ) → i < result → coord_at labels.now row.now i ≤ℤ coord }
-    ensures after { (i : ℕ) → result ≤ i → i < length row.now → coord <ℤ coord_at labels.now row.now i }
+    ensures before { (i : ℕ) → i < result → coord_at labels.now row.now i ≤ℤ place.coord }
+    ensures after { (i : ℕ) → result ≤ i → i < length row.now → place.coord <ℤ coord_at labels.now row.now i }
 {
     let mut low = 0;
     let mut high = row.len();
     'halves: while low < high {
         let middle = low + (high - low) / 2;
-        if labels[row[middle] as usize].place.coord <= coord {
-            low = middle + 1;
-        } else {
+        if is_above(labels, row[middle], place) {
             high = middle;
+        } else {
+            low = middle + 1;
         }
     }
     low
@@ -49,10 +68,9 @@ pub fn count_up_to(labels: &[Label], row: &[u64], coord: i64) -> usize
 
 /// Puts a number into a row. After `Memory` all rows are as they were.
 pub fn insert(rows: &mut Vec<SmallVec<u64, 2>>, i: usize, at: usize, no: u64) -> Result<(), Memory>
-    ghost row: { List ℕ }
-    requires row { slice_get (rows_of rows.old.items) i ≡ Some row }
-    requires at { at ≤ length row }
-    ensures ok { OnOk result (rows_of rows.new.items ≡ slice_set (rows_of rows.old.items) i (inserted row at no)) }
+    requires within { i < length rows.old.items }
+    requires at { at ≤ length (row_at rows.old.items i) }
+    ensures ok { OnOk result (rows_of rows.new.items ≡ slice_set (rows_of rows.old.items) i (inserted (row_at rows.old.items i) at no)) }
     ensures err { OnErr result (rows_of rows.new.items ≡ rows_of rows.old.items) }
 {
     rows[i].insert(at, no)?;
@@ -63,7 +81,7 @@ pub fn insert(rows: &mut Vec<SmallVec<u64, 2>>, i: usize, at: usize, no: u64) ->
 pub fn clear_all(rows: &mut Vec<SmallVec<u64, 2>>)
     ensures { All (λ row. row ≡ []) (rows_of rows.new.items) }
 {
-    'rows: for row in rows.iter_mut() {
-        row.clear();
+    'rows: for i in 0..rows.len() {
+        rows[i].clear();
     }
 }

@@ -6,8 +6,8 @@ abbrev pub invariant-halves : goal.invariant-halves
 invariant-halves l = record {
   ordered : l.low ≤ l.high;
   inside : l.high ≤ length l.row;
-  before : (i : ℕ) → i < l.low → coord_at l.labels l.row i ≤ℤ l.coord;
-  after : (i : ℕ) → l.high ≤ i → i < length l.row → l.coord <ℤ coord_at l.labels l.row i;
+  before : (i : ℕ) → i < l.low → coord_at l.labels l.row i ≤ℤ l.place.coord;
+  after : (i : ℕ) → l.high ≤ i → i < length l.row → l.place.coord <ℤ coord_at l.labels l.row i;
 }
 
 abbrev pub decreases-halves : goal.decreases-halves
