@@ -5,3 +5,4 @@ pub mod Ending
 pub mod Sorting
 pub mod Inserting
 pub mod Keeping
+pub mod Nearest

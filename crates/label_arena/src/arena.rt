@@ -5,7 +5,7 @@ ghost use Rattle.label_arena.specs.Plain.{IsInside, IsIn, IsRun};
 use crate::ends::{end_bridges, end_runs};
 use crate::group::{End, Group};
 use crate::place::{Bridge, Interval, IntervalNo, Label, LabelNo, Place, Run};
-use crate::row::{clear_all, count_below, insert};
+use crate::row::{add_row, clear_all, count_below, insert};
 use crate::steps::Steps;
 use rt_base::{Memory, Span};
 use smallvec::SmallVec;
@@ -73,9 +73,7 @@ impl Arena {
         ensures err { OnErr result (self.new ≡ self.old) }
     {
         let number = self.intervals.len();
-        if self.rows.len() == number {
-            self.rows.push(SmallVec::new(self.alloc))?;
-        }
+        add_row(&mut self.rows, self.alloc, number)?;
         self.intervals.push(interval)?;
         self.indexed = false;
         Ok(IntervalNo(number as u64))
@@ -147,12 +145,16 @@ impl Arena {
         let row = label.place.interval.0 as usize;
         let at = count_below(&self.labels, self.rows[row].as_slice(), label.place);
         self.labels.push(label)?;
-        if insert(&mut self.rows, row, at, number).is_err() {
-            let _ = self.labels.pop();
-            return Err(Memory);
+        match insert(&mut self.rows, row, at, number) {
+            Ok(()) => {
+                steps.count();
+                Ok(LabelNo(number))
+            }
+            Err(error) => {
+                let _ = self.labels.pop();
+                Err(error)
+            }
         }
-        steps.count();
-        Ok(LabelNo(number))
     }
 
     /// Empties all lists. Keeps their room, and takes no memory.

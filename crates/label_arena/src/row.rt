@@ -1,5 +1,5 @@
 //! The labels of one interval, in the order of their coordinates.
-ghost use Rattle.std.specs.Prelude.{◌≡◌, ℕ, ◌<◌, ◌≤◌, ◌≤ℤ◌, ◌<ℤ◌, length, slice_set, [], OnOk, OnErr, All};
+ghost use Rattle.std.specs.Prelude.{◌≡◌, ◌⊎◌, ℕ, ◌++◌, ◌∷◌, ◌<◌, ◌≤◌, ◌≤ℤ◌, ◌<ℤ◌, length, slice_set, [], OnOk, OnErr, All};
 ghost use Rattle.std.specs.Bool.{OnFalse, OnTrue};
 ghost use Rattle.std.specs.List.{insert as inserted};
 ghost use Rattle.label_arena.specs.Rows.{IsSorted, coord_at, coord_of, row_at, rows_of};
@@ -7,6 +7,7 @@ ghost use Rattle.label_arena.specs.Rows.{IsSorted, coord_at, coord_of, row_at, r
 use crate::place::{Label, Place};
 use rt_base::Memory;
 use smallvec::SmallVec;
+use std::alloc::Global;
 
 /// Whether a label stands below a place of its interval.
 fn is_below(labels: &[Label], no: u64, place: Place) -> bool
@@ -64,6 +65,18 @@ pub fn count_up_to(labels: &[Label], row: &[u64], place: Place) -> usize
         }
     }
     low
+}
+
+/// Makes an empty row past so many rows, unless there is one.
+pub fn add_row(rows: &mut Vec<SmallVec<u64, 2>>, alloc: Global, count: usize) -> Result<(), Memory>
+    requires { count ≤ length rows.old.items }
+    ensures wide { OnOk result (count < length (rows_of rows.new.items)) }
+    ensures rows { (rows_of rows.new.items ≡ rows_of rows.old.items) ⊎ (rows_of rows.new.items ≡ rows_of rows.old.items ++ [] ∷ []) }
+{
+    if rows.len() == count {
+        rows.push(SmallVec::new(alloc))?;
+    }
+    Ok(())
 }
 
 /// Puts a number into a row. After `Memory` all rows are as they were.

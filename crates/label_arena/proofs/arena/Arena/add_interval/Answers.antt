@@ -1,11 +1,17 @@
-use Rattle.std.proofs.Common.{rules, ◌≡◌, ◌+◌, ◌++◌, ◌∷◌, [], length, true, false, OnOk, OnErr, IfOk, ℕ, ◌-◌, ◌*◌, ◌<◌, ◌≤◌, ◌/◌, ◌%◌, Bool, nat_eq, nat_lt, List, slice_index_or, slice_set, bit_and, bit_or, Fits, w8, w32, w64, Bor, MutBor}
-use Rattle.label_arena.specs.Plain.{IsInside, IsIn, IsRun}
+use Rattle.std.proofs.Common.{◌≡◌, ◌<◌, length, subst, sym, ap, refl, arith, List}
+use Rattle.label_arena.specs.declared.place.Interval.{Interval}
+use Rattle.label_arena.specs.Keeping.{IsKept}
+use Rattle.label_arena.specs.Rows.{rows_of}
+use Rattle.label_arena.proofs.Keeping.{kept_rows, kept_interval}
 use Rattle.label_arena.proofs.arena.Arena.add_interval.Goals as goal
 
--- src/arena.rt:78:9
-pub invariant_of-self-in_err-push-2 : goal.invariant_of-self-in_err-push-2
-invariant_of-self-in_err-push-2 c = ?
+pub invariant_of-self : goal.invariant_of-self
+invariant_of-self c = kept_rows _ _ _ _ _ _ _ _ c.self.invariant _ c.add_row.ensures.rows
 
--- src/arena.rt:68:5
+pub invariant_of-self-in_err-push : goal.invariant_of-self-in_err-push
+invariant_of-self-in_err-push c = rw c.in_err-push.ensures.items (kept_rows _ _ _ _ _ _ _ _ c.self.invariant _ c.add_row.ensures.rows)
+
 pub invariant_of-self-2 : goal.invariant_of-self-2
-invariant_of-self-2 c = ?
+invariant_of-self-2 c =
+    let wide : length c.self.inside.intervals.items < length (rows_of c.add_row.new.rows.items) = omega (arith, c.in_ok-add_row.ensures.wide) in
+    kept_interval _ _ _ _ _ _ _ _ (kept_rows _ _ _ _ _ _ _ _ c.self.invariant _ c.add_row.ensures.rows) _ _ c.in_ok-push.ensures.items wide

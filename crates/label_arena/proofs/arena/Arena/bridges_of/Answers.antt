@@ -1,17 +1,29 @@
-use Rattle.std.proofs.Common.{rules, ◌≡◌, ℕ, ◌<◌, ◌≤◌, length, slice_get, slice_index, Some, ◌∷◌, [], true, ◌+◌, ◌-◌, ◌*◌, ◌/◌, ◌%◌, Bool, false, nat_eq, nat_lt, List, ◌++◌, slice_index_or, slice_set, bit_and, bit_or, Fits, w8, w32, w64, Bor, MutBor}
-use Rattle.label_arena.specs.Plain.{IsInside, IsJoined, vertex_of}
-use Rattle.label_arena.specs.Keeping.{AreInside}
-use Rattle.label_arena.specs.Ways.{AreExactly, IsBridgeOf, IsRunOf, IsBelow, IsAbove}
+use Rattle.std.proofs.Common.{◌≡◌, ◌<◌, ◌≤◌, ◌∙◌, ap, sym, subst, length, true, Bool, arith}
+use Rattle.label_arena.specs.Lists.{Lists, Graph}
+use Rattle.label_arena.specs.Ways.{AreExactly, IsBridgeOf, IsRunOf}
+use Rattle.label_arena.specs.Groups.{HasRow, row_of, numbers_in}
+use Rattle.label_arena.specs.Keeping.{bridge_ends}
+use Rattle.label_arena.proofs.Ending.{bridges_exactly, bridges_few}
 use Rattle.label_arena.proofs.arena.Arena.bridges_of.Goals as goal
 
--- src/read.rt:95:9
 pub row-requires : goal.row-requires
-row-requires c = ?
+row-requires c =
+    let made : c.self.inside.indexed ≡ true = ap (λ (v : Lists). v.indexed) c.self.view_is ∙ c.requires.indexed in
+    let here : c.args.no.0 < length c.self.inside.intervals.items = omega (arith, ap (λ (v : Lists). length v.graph.intervals) c.self.view_is, c.requires.within) in
+    ((c.self.invariant.index made).bridges_are c.args.no.0 here).0
 
--- src/read.rt:89:5
 pub returns-clause-exactly : goal.returns-clause-exactly
-returns-clause-exactly c = ?
+returns-clause-exactly c =
+    let made : c.self.inside.indexed ≡ true = ap (λ (v : Lists). v.indexed) c.self.view_is ∙ c.requires.indexed in
+    let here : c.args.no.0 < length c.self.inside.intervals.items = omega (arith, ap (λ (v : Lists). length v.graph.intervals) c.self.view_is, c.requires.within) in
+    let is : c.row.result.now ≡ numbers_in c.args.no.0 (bridge_ends 0 c.self.inside.bridges.items) = c.row.ensures ∙ ((c.self.invariant.index made).bridges_are c.args.no.0 here).1 in
+    let same = ap (λ (v : Lists). v.graph.bridges) c.self.view_is in
+    bridges_exactly c.args.self.now.graph c.args.no.0 c.row.result.now (rw same at is)
 
--- src/read.rt:89:5
 pub returns-clause-few : goal.returns-clause-few
-returns-clause-few c = ?
+returns-clause-few c =
+    let made : c.self.inside.indexed ≡ true = ap (λ (v : Lists). v.indexed) c.self.view_is ∙ c.requires.indexed in
+    let here : c.args.no.0 < length c.self.inside.intervals.items = omega (arith, ap (λ (v : Lists). length v.graph.intervals) c.self.view_is, c.requires.within) in
+    let is : c.row.result.now ≡ numbers_in c.args.no.0 (bridge_ends 0 c.self.inside.bridges.items) = c.row.ensures ∙ ((c.self.invariant.index made).bridges_are c.args.no.0 here).1 in
+    let few : length (numbers_in c.args.no.0 (bridge_ends 0 c.self.inside.bridges.items)) ≤ length c.self.inside.bridges.items = bridges_few c.args.no.0 0 c.self.inside.bridges.items in
+    omega (arith, ap length is, few, ap (λ (v : Lists). length v.graph.bridges) c.self.view_is)

@@ -1,7 +1,5 @@
-use Rattle.std.proofs.Common.{rules, ◌≡◌, ◌+◌, ◌++◌, ◌∷◌, [], length, true, false, OnOk, OnErr, IfOk, ℕ, ◌-◌, ◌*◌, ◌<◌, ◌≤◌, ◌/◌, ◌%◌, Bool, nat_eq, nat_lt, List, slice_index_or, slice_set, bit_and, bit_or, Fits, w8, w32, w64, Bor, MutBor}
-use Rattle.label_arena.specs.Plain.{IsInside, IsIn, IsRun}
+use Rattle.label_arena.proofs.Keeping.{kept_empty}
 use Rattle.label_arena.proofs.arena.Arena.clear.Goals as goal
 
--- src/arena.rt:146:5
 pub invariant_of-self : goal.invariant_of-self
-invariant_of-self c = ?
+invariant_of-self c = kept_empty _ _ _ _ _ _ _ c.clear.ensures.items c.clear-2.ensures.items c.clear-3.ensures.items c.clear-4.ensures.items c.clear_all.ensures
