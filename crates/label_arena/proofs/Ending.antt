@@ -1,5 +1,5 @@
 -- The ends of bridges and runs, and the numbers that they give an interval.
-use Rattle.std.proofs.Common.{◌≡◌, ◌≢◌, ◌⊎◌, inl, inr, ℕ, ◌+◌, ◌<◌, ◌≤◌, ◌==◌, zero, suc, sym, refl, ap, ◌∙◌, subst, Bool, true, false, if◌then◌else◌, List, [], ◌∷◌, ◌++◌, length, take, arith, Some, All, Contains, slice_get, slice_index_or, ⊎_elim}
+use Rattle.std.proofs.Common.{◌≡◌, ◌≢◌, ◌⊎◌, inl, inr, ℕ, ◌+◌, ◌<◌, ◌≤◌, zero, suc, sym, refl, ap, ◌∙◌, subst, List, [], ◌∷◌, ◌++◌, length, take, arith, Some, All, Contains, slice_get, slice_index_or, ⊎_elim}
 use Rattle.std.proofs.lemmas.Bool.{cases_eq}
 use Rattle.std.proofs.lemmas.List.{take_more, length-take}
 use Rattle.std.proofs.lemmas.List.Elements.{All-nil, All-cons}
@@ -56,6 +56,7 @@ touching n a b k es h = ⊎_elim
     here : a ≡ b → (a ≡ n) ⊎ (b ≡ n) → a ≡ n
     here q (inl e) = e
     here q (inr e) = q ∙ e
+
     one : a ≢ b → (a ≡ n) ⊎ (b ≡ n) → numbers_in n ((record { row = a; no = k }) ∷ (record { row = b; no = k }) ∷ es) ≡ k ∷ numbers_in n es
     one q (inl e) = numbers_same n (record { row = a; no = k }) ((record { row = b; no = k }) ∷ es) e
         ∙ ap (λ ns. k ∷ ns) (numbers_other n (record { row = b; no = k }) es (λ f. q (e ∙ sym f)))
@@ -73,14 +74,14 @@ bridges_taken : (bs : List Bridge) (k : ℕ) (d : Bridge) → k < length bs →
 bridges_taken bs k d h =
     rw (take_more bs k d h)
     (bridges_more 0 (take k bs) (slice_index_or bs k d)
-      ∙ ap (λ n. bridge_ends 0 (take k bs) ++ ends_of (slice_index_or bs k d).a.interval.0 (slice_index_or bs k d).b.interval.0 n []) (omega (arith, length-take k bs)))
+    ∙ ap (λ n. bridge_ends 0 (take k bs) ++ ends_of (slice_index_or bs k d).a.interval.0 (slice_index_or bs k d).b.interval.0 n []) (omega (arith, length-take k bs)))
 
 runs_taken : (rs : List Run) (k : ℕ) (d : Run) → k < length rs →
     run_ends 0 (take (k + 1) rs) ≡ run_ends 0 (take k rs) ++ ends_of (slice_index_or rs k d).a.0 (slice_index_or rs k d).b.0 k []
 runs_taken rs k d h =
     rw (take_more rs k d h)
     (runs_more 0 (take k rs) (slice_index_or rs k d)
-      ∙ ap (λ n. run_ends 0 (take k rs) ++ ends_of (slice_index_or rs k d).a.0 (slice_index_or rs k d).b.0 n []) (omega (arith, length-take k rs)))
+    ∙ ap (λ n. run_ends 0 (take k rs) ++ ends_of (slice_index_or rs k d).a.0 (slice_index_or rs k d).b.0 n []) (omega (arith, length-take k rs)))
 
 pub bridges_step : (bs : List Bridge) (k : ℕ) (d : Bridge) (old new : List End) → k < length bs → new ≡ old ++ ends_of (slice_index_or bs k d).a.interval.0 (slice_index_or bs k d).b.interval.0 k [] → old ≡ bridge_ends 0 (take k bs) → new ≡ bridge_ends 0 (take (k + 1) bs)
 bridges_step bs k d old new h n o = n ∙ ap (λ (es : List End). es ++ ends_of (slice_index_or bs k d).a.interval.0 (slice_index_or bs k d).b.interval.0 k []) o ∙ sym (bridges_taken bs k d h)
@@ -123,11 +124,11 @@ pub bridges_only : (n k m : ℕ) (bs : List Bridge) → Contains (numbers_in n (
 bridges_only n k m [] h = absurd (omega (arith, h.1))
 bridges_only n k m (b ∷ bs) h = ⊎_elim
     (λ (t : (b.a.interval.0 ≡ n) ⊎ (b.b.interval.0 ≡ n)). ⊎_elim
-      (λ (e : m ≡ k). (0, b, e ∙ sym (plus_zero k), refl, t))
-      (λ (r : Contains (numbers_in n (bridge_ends (k + 1) bs)) m). let f = bridges_only n (k + 1) m bs r in (suc f.0, f.1, f.2 ∙ plus_one k f.0, f.3, f.4))
-      (contains_cons k _ m (subst (λ (ns : List ℕ). Contains ns m) (touching n b.a.interval.0 b.b.interval.0 k (bridge_ends (k + 1) bs) t) h)))
+    (λ (e : m ≡ k). (0, b, e ∙ sym (plus_zero k), refl, t))
+    (λ (r : Contains (numbers_in n (bridge_ends (k + 1) bs)) m). let f = bridges_only n (k + 1) m bs r in (suc f.0, f.1, f.2 ∙ plus_one k f.0, f.3, f.4))
+    (contains_cons k _ m (subst (λ (ns : List ℕ). Contains ns m) (touching n b.a.interval.0 b.b.interval.0 k (bridge_ends (k + 1) bs) t) h)))
     (λ (p : (b.a.interval.0 ≢ n) × (b.b.interval.0 ≢ n)).
-      let f = bridges_only n (k + 1) m bs (subst (λ (ns : List ℕ). Contains ns m) (passing n b.a.interval.0 b.b.interval.0 k (bridge_ends (k + 1) bs) p.0 p.1) h) in (suc f.0, f.1, f.2 ∙ plus_one k f.0, f.3, f.4))
+    let f = bridges_only n (k + 1) m bs (subst (λ (ns : List ℕ). Contains ns m) (passing n b.a.interval.0 b.b.interval.0 k (bridge_ends (k + 1) bs) p.0 p.1) h) in (suc f.0, f.1, f.2 ∙ plus_one k f.0, f.3, f.4))
     (touch_or_not n b.a.interval.0 b.b.interval.0)
 
 pub bridges_every : (n k j : ℕ) (b : Bridge) (bs : List Bridge) → slice_get bs j ≡ Some b → ((b.a.interval.0 ≡ n) ⊎ (b.b.interval.0 ≡ n)) → Contains (numbers_in n (bridge_ends k bs)) (k + j)
@@ -139,9 +140,9 @@ bridges_every n k zero b (x ∷ bs) at t =
 bridges_every n k (suc j) b (x ∷ bs) at t =
     let r : Contains (numbers_in n (bridge_ends (k + 1) bs)) (k + suc j) = subst (λ (m : ℕ). Contains (numbers_in n (bridge_ends (k + 1) bs)) m) (plus_one k j) (bridges_every n (k + 1) j b bs at t) in
     ⊎_elim
-      (λ (s : (x.a.interval.0 ≡ n) ⊎ (x.b.interval.0 ≡ n)). rw (touching n x.a.interval.0 x.b.interval.0 k (bridge_ends (k + 1) bs) s) (contains_rest k _ (k + suc j) r))
-      (λ (p : (x.a.interval.0 ≢ n) × (x.b.interval.0 ≢ n)). rw (passing n x.a.interval.0 x.b.interval.0 k (bridge_ends (k + 1) bs) p.0 p.1) r)
-      (touch_or_not n x.a.interval.0 x.b.interval.0)
+    (λ (s : (x.a.interval.0 ≡ n) ⊎ (x.b.interval.0 ≡ n)). rw (touching n x.a.interval.0 x.b.interval.0 k (bridge_ends (k + 1) bs) s) (contains_rest k _ (k + suc j) r))
+    (λ (p : (x.a.interval.0 ≢ n) × (x.b.interval.0 ≢ n)). rw (passing n x.a.interval.0 x.b.interval.0 k (bridge_ends (k + 1) bs) p.0 p.1) r)
+    (touch_or_not n x.a.interval.0 x.b.interval.0)
 
 pub bridges_few : (n k : ℕ) (bs : List Bridge) → length (numbers_in n (bridge_ends k bs)) ≤ length bs
 bridges_few n k [] = omega arith
@@ -155,11 +156,11 @@ pub runs_only : (n k m : ℕ) (bs : List Run) → Contains (numbers_in n (run_en
 runs_only n k m [] h = absurd (omega (arith, h.1))
 runs_only n k m (b ∷ bs) h = ⊎_elim
     (λ (t : (b.a.0 ≡ n) ⊎ (b.b.0 ≡ n)). ⊎_elim
-      (λ (e : m ≡ k). (0, b, e ∙ sym (plus_zero k), refl, t))
-      (λ (r : Contains (numbers_in n (run_ends (k + 1) bs)) m). let f = runs_only n (k + 1) m bs r in (suc f.0, f.1, f.2 ∙ plus_one k f.0, f.3, f.4))
-      (contains_cons k _ m (subst (λ (ns : List ℕ). Contains ns m) (touching n b.a.0 b.b.0 k (run_ends (k + 1) bs) t) h)))
+    (λ (e : m ≡ k). (0, b, e ∙ sym (plus_zero k), refl, t))
+    (λ (r : Contains (numbers_in n (run_ends (k + 1) bs)) m). let f = runs_only n (k + 1) m bs r in (suc f.0, f.1, f.2 ∙ plus_one k f.0, f.3, f.4))
+    (contains_cons k _ m (subst (λ (ns : List ℕ). Contains ns m) (touching n b.a.0 b.b.0 k (run_ends (k + 1) bs) t) h)))
     (λ (p : (b.a.0 ≢ n) × (b.b.0 ≢ n)).
-      let f = runs_only n (k + 1) m bs (subst (λ (ns : List ℕ). Contains ns m) (passing n b.a.0 b.b.0 k (run_ends (k + 1) bs) p.0 p.1) h) in (suc f.0, f.1, f.2 ∙ plus_one k f.0, f.3, f.4))
+    let f = runs_only n (k + 1) m bs (subst (λ (ns : List ℕ). Contains ns m) (passing n b.a.0 b.b.0 k (run_ends (k + 1) bs) p.0 p.1) h) in (suc f.0, f.1, f.2 ∙ plus_one k f.0, f.3, f.4))
     (touch_or_not n b.a.0 b.b.0)
 
 pub runs_every : (n k j : ℕ) (b : Run) (bs : List Run) → slice_get bs j ≡ Some b → ((b.a.0 ≡ n) ⊎ (b.b.0 ≡ n)) → Contains (numbers_in n (run_ends k bs)) (k + j)
@@ -171,9 +172,9 @@ runs_every n k zero b (x ∷ bs) at t =
 runs_every n k (suc j) b (x ∷ bs) at t =
     let r : Contains (numbers_in n (run_ends (k + 1) bs)) (k + suc j) = subst (λ (m : ℕ). Contains (numbers_in n (run_ends (k + 1) bs)) m) (plus_one k j) (runs_every n (k + 1) j b bs at t) in
     ⊎_elim
-      (λ (s : (x.a.0 ≡ n) ⊎ (x.b.0 ≡ n)). rw (touching n x.a.0 x.b.0 k (run_ends (k + 1) bs) s) (contains_rest k _ (k + suc j) r))
-      (λ (p : (x.a.0 ≢ n) × (x.b.0 ≢ n)). rw (passing n x.a.0 x.b.0 k (run_ends (k + 1) bs) p.0 p.1) r)
-      (touch_or_not n x.a.0 x.b.0)
+    (λ (s : (x.a.0 ≡ n) ⊎ (x.b.0 ≡ n)). rw (touching n x.a.0 x.b.0 k (run_ends (k + 1) bs) s) (contains_rest k _ (k + suc j) r))
+    (λ (p : (x.a.0 ≢ n) × (x.b.0 ≢ n)). rw (passing n x.a.0 x.b.0 k (run_ends (k + 1) bs) p.0 p.1) r)
+    (touch_or_not n x.a.0 x.b.0)
 
 pub runs_few : (n k : ℕ) (bs : List Run) → length (numbers_in n (run_ends k bs)) ≤ length bs
 runs_few n k [] = omega arith

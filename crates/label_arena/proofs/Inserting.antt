@@ -1,5 +1,5 @@
 -- One label more in its row.
-use Rattle.std.proofs.Common.{◌≡◌, ◌≢◌, ◌⊎◌, inl, inr, ℕ, ◌+◌, ◌-◌, ◌<◌, ◌≤◌, ◌≤ℤ◌, ◌<ℤ◌, ℤ, zero, suc, sym, refl, ap, ◌∙◌, subst, List, [], ◌∷◌, ◌++◌, length, arith, Option, Some, slice_get, slice_set, slice_index, ⊎_elim, add-one}
+use Rattle.std.proofs.Common.{◌≡◌, ◌≢◌, ◌⊎◌, inl, inr, ℕ, ◌+◌, ◌-◌, ◌<◌, ◌≤◌, ◌≤ℤ◌, ◌<ℤ◌, sym, refl, ap, ◌∙◌, subst, List, [], ◌∷◌, ◌++◌, length, arith, Some, slice_get, slice_set, slice_index, ⊎_elim}
 use Rattle.std.specs.List.{insert}
 use Rattle.std.proofs.lemmas.Int.{ints}
 use Rattle.std.proofs.lemmas.Bool.{cases_eq, cases_lt}
@@ -68,9 +68,9 @@ module _ (ls : List Label) (x : Label) (row : List ℕ) (at : ℕ) (fits : at �
     within_more i l = ⊎_elim
         (λ (q : i < at). omega (arith, low i q, order.within i (omega arith), length_more ls x))
         (λ (q : at ≤ i). ⊎_elim
-          (λ (e : i ≡ at). rw e (omega (arith, mid, length_more ls x)))
-          (λ (e : i ≢ at). omega (arith, high i (omega (arith, e)), order.within (i - 1) (omega (arith, e)), length_more ls x))
-          (cases_eq i at))
+        (λ (e : i ≡ at). rw e (omega (arith, mid, length_more ls x)))
+        (λ (e : i ≢ at). omega (arith, high i (omega (arith, e)), order.within (i - 1) (omega (arith, e)), length_more ls x))
+        (cases_eq i at))
         (cases_lt i at)
 
     module _ (before : (i : ℕ) → i < at → coord_at ls row i <ℤ x.place.coord) (after : (i : ℕ) → at ≤ i → i < length row → x.place.coord ≤ℤ coord_at ls row i) where
@@ -84,13 +84,13 @@ module _ (ls : List Label) (x : Label) (row : List ℕ) (at : ℕ) (fits : at �
       sorted_more : (i j : ℕ) → i ≤ j → j < length row + 1 → coord_at (ls ++ x ∷ []) (insert row at (length ls)) i ≤ℤ coord_at (ls ++ x ∷ []) (insert row at (length ls)) j
       sorted_more i j q l = ⊎_elim
           (λ (a : i < at). ⊎_elim
-            (λ (b : j < at). rw (coord_low i a, coord_low j b) (order.sorted i j q (omega arith)))
-            (λ (b : at ≤ j). rw (coord_low i a) (omega (arith, ints, before i a, from_mid j b l)))
-            (cases_lt j at))
+          (λ (b : j < at). rw (coord_low i a, coord_low j b) (order.sorted i j q (omega arith)))
+          (λ (b : at ≤ j). rw (coord_low i a) (omega (arith, ints, before i a, from_mid j b l)))
+          (cases_lt j at))
           (λ (a : at ≤ i). ⊎_elim
-            (λ (e : i ≡ at). rw (e, coord_mid) (from_mid j (omega arith) l))
-            (λ (e : i ≢ at). rw (coord_high i (omega (arith, e)) (omega arith), coord_high j (omega (arith, e)) l) (order.sorted (i - 1) (j - 1) (omega (arith, e)) (omega (arith, e))))
-            (cases_eq i at))
+          (λ (e : i ≡ at). rw (e, coord_mid) (from_mid j (omega arith) l))
+          (λ (e : i ≢ at). rw (coord_high i (omega (arith, e)) (omega arith), coord_high j (omega (arith, e)) l) (order.sorted (i - 1) (j - 1) (omega (arith, e)) (omega (arith, e))))
+          (cases_eq i at))
           (cases_lt i at)
 
   module _ (n : ℕ) (on : x.place.interval.0 ≡ n) (h : IsRow ls n row) where
@@ -98,17 +98,17 @@ module _ (ls : List Label) (x : Label) (row : List ℕ) (at : ℕ) (fits : at �
     only_more i l = ⊎_elim
         (λ (q : i < at). let o = h.only i (omega arith) in (o.0, rw (low i q) (label_kept ls x n (slice_index row i) o.0 o.1)))
         (λ (q : at ≤ i). ⊎_elim
-          (λ (e : i ≡ at). (x, rw (e, mid) (record { at = get_last ls x; on = on })))
-          (λ (e : i ≢ at). let o = h.only (i - 1) (omega (arith, e)) in (o.0, rw (high i (omega (arith, e))) (label_kept ls x n (slice_index row (i - 1)) o.0 o.1)))
-          (cases_eq i at))
+        (λ (e : i ≡ at). (x, rw (e, mid) (record { at = get_last ls x; on = on })))
+        (λ (e : i ≢ at). let o = h.only (i - 1) (omega (arith, e)) in (o.0, rw (high i (omega (arith, e))) (label_kept ls x n (slice_index row (i - 1)) o.0 o.1)))
+        (cases_eq i at))
         (cases_lt i at)
 
     every_more : (k : ℕ) (y : Label) → IsLabelOf (ls ++ x ∷ []) n k y → (i : ℕ) × (i < length row + 1) × (slice_index (insert row at (length ls)) i ≡ k)
     every_more k y is = ⊎_elim
         (λ (o : IsLabelOf ls n k y). let e = h.every k y o in ⊎_elim
-          (λ (q : e.0 < at). (e.0, omega (arith, e.1), low e.0 q ∙ e.2))
-          (λ (q : at ≤ e.0). (e.0 + 1, omega (arith, e.1), get_or-insert_above row at (length ls) 0 e.0 q fits ∙ e.2))
-          (cases_lt e.0 at))
+        (λ (q : e.0 < at). (e.0, omega (arith, e.1), low e.0 q ∙ e.2))
+        (λ (q : at ≤ e.0). (e.0 + 1, omega (arith, e.1), get_or-insert_above row at (length ls) 0 e.0 q fits ∙ e.2))
+        (cases_lt e.0 at))
         (λ (e : (k ≡ length ls) × (x.place.interval.0 ≡ n)). (at, omega arith, mid ∙ sym e.0))
         (label_cases ls x n k y is)
 
@@ -128,9 +128,9 @@ pub rows_more : (ls : List Label) (x : Label) (rows : List (List ℕ)) (row : Li
     AreRows (ls ++ x ∷ []) (slice_set rows x.place.interval.0 (insert row at (length ls)))
 rows_more ls x rows row at h is fits before after n r got = ⊎_elim
     (λ (e : n ≡ x.place.interval.0).
-      let own : IsRow (ls ++ x ∷ []) x.place.interval.0 (insert row at (length ls)) = row_more ls x row at fits x.place.interval.0 refl (h x.place.interval.0 row is) before after in
-      let same : insert row at (length ls) ≡ r = same_Some _ r (sym (get_set_same rows x.place.interval.0 _ (slice_get_within rows _ row is)) ∙ ap (slice_get (slice_set rows x.place.interval.0 (insert row at (length ls)))) (sym e) ∙ got) in
-      subst (λ (m : ℕ). IsRow (ls ++ x ∷ []) m r) (sym e) (subst (λ (q : List ℕ). IsRow (ls ++ x ∷ []) x.place.interval.0 q) same own))
+    let own : IsRow (ls ++ x ∷ []) x.place.interval.0 (insert row at (length ls)) = row_more ls x row at fits x.place.interval.0 refl (h x.place.interval.0 row is) before after in
+    let same : insert row at (length ls) ≡ r = same_Some _ r (sym (get_set_same rows x.place.interval.0 _ (slice_get_within rows _ row is)) ∙ ap (slice_get (slice_set rows x.place.interval.0 (insert row at (length ls)))) (sym e) ∙ got) in
+    subst (λ (m : ℕ). IsRow (ls ++ x ∷ []) m r) (sym e) (subst (λ (q : List ℕ). IsRow (ls ++ x ∷ []) x.place.interval.0 q) same own))
     (λ (e : n ≢ x.place.interval.0).
-      row_kept ls x n r (λ q. e (sym q)) (h n r (sym (get_set_other rows x.place.interval.0 n _ e) ∙ got)))
+    row_kept ls x n r (λ q. e (sym q)) (h n r (sym (get_set_other rows x.place.interval.0 n _ e) ∙ got)))
     (cases_eq n x.place.interval.0)

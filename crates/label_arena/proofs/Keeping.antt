@@ -1,5 +1,5 @@
 -- What an arena keeps, as it grows.
-use Rattle.std.proofs.Common.{◌≡◌, ◌≢◌, ◌⊎◌, inl, inr, ℕ, ◌+◌, ◌<◌, ◌≤◌, ◌≤ℤ◌, ℤ, zero, suc, sym, refl, ap, ◌∙◌, subst, List, [], ◌∷◌, ◌++◌, length, take, ◌-◌, arith, Bool, true, false, ◌<ℤ◌, Option, Some, All, slice_get, slice_set, slice_index_or, ⊎_elim}
+use Rattle.std.proofs.Common.{◌≡◌, ◌⊎◌, ℕ, ◌<◌, ◌≤◌, ◌≤ℤ◌, sym, ap, ◌∙◌, subst, List, [], ◌∷◌, ◌++◌, length, take, ◌-◌, arith, Bool, true, false, ◌<ℤ◌, Some, All, slice_get, slice_set, slice_index_or, ⊎_elim}
 use Rattle.std.proofs.lemmas.Option.{slice_get_within, get_or_from_slice_get}
 use Rattle.label_arena.specs.declared.place.Place.{Place}
 use Rattle.label_arena.specs.declared.place.Interval.{Interval}
@@ -8,7 +8,6 @@ use Rattle.label_arena.specs.declared.place.Run.{Run}
 use Rattle.label_arena.specs.declared.place.Label.{Label}
 use Rattle.label_arena.specs.Lists.{Graph}
 use Rattle.label_arena.specs.Plain.{IsIn, IsInside, IsBridge, IsRun, IsJoined}
-use Rattle.label_arena.specs.Ways.{IsLabelOf}
 use Rattle.std.specs.List.{insert}
 use Rattle.std.proofs.Math.Seq.{take-append_seam}
 use Rattle.std.specs.Global.{Global}
@@ -16,10 +15,10 @@ use Rattle.smallvec.specs.declared.small_vec.SmallVec.{SmallVec}
 use Rattle.std.proofs.lemmas.List.{length-map, length-set}
 use Rattle.label_arena.specs.declared.group.End.{End}
 use Rattle.label_arena.specs.declared.group.Group.{Group}
-use Rattle.label_arena.specs.Rows.{rows_of, row_at, IsRow, AreRows, IsSorted, coord_at}
+use Rattle.label_arena.specs.Rows.{rows_of, IsRow, AreRows, IsSorted, coord_at}
 use Rattle.label_arena.specs.Groups.{IsGrouped}
-use Rattle.label_arena.specs.Keeping.{AreInside, IsKept, IsIndexed, bridge_ends, run_ends}
-use Rattle.label_arena.proofs.Lists.{get_more, get_cases, get_last, length_more}
+use Rattle.label_arena.specs.Keeping.{AreInside, IsKept, bridge_ends, run_ends}
+use Rattle.label_arena.proofs.Lists.{get_more, get_cases, length_more}
 use Rattle.label_arena.proofs.Ending.{bridge_rows, run_rows}
 use Rattle.label_arena.proofs.Inserting.{rows_more}
 use Rattle.label_arena.proofs.Sorting.{row_is, row_got}
@@ -190,8 +189,10 @@ kept_empty is bs rs ls rows gb gr ei eb er el all = rw (ei, eb, er, el) (record 
   where
     none_bridge : {x : Bridge} (k : ℕ) → slice_get [] k ≡ Some x → ⊥
     none_bridge k e = cc
+
     none_run : {x : Run} (k : ℕ) → slice_get [] k ≡ Some x → ⊥
     none_run k e = cc
+
     none_label : {x : Label} (k : ℕ) → slice_get [] k ≡ Some x → ⊥
     none_label k e = cc
 

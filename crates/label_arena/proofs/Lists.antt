@@ -1,5 +1,5 @@
 -- Lists that grow at their end or change in one place.
-use Rattle.std.proofs.Common.{◌≡◌, ◌≢◌, ◌⊎◌, inl, inr, ℕ, ◌+◌, ◌<◌, ◌≤◌, zero, suc, sym, refl, ap, ◌∙◌, List, [], ◌∷◌, ◌++◌, length, drop, take, Some, Contains, arith, add-one, slice_get, slice_set, slice_range}
+use Rattle.std.proofs.Common.{◌≡◌, ◌≢◌, ◌⊎◌, inl, inr, ℕ, ◌+◌, ◌<◌, zero, suc, sym, refl, ap, ◌∙◌, List, [], ◌∷◌, ◌++◌, length, drop, Some, Contains, arith, add-one, slice_get, slice_set}
 use Rattle.std.proofs.lemmas.Option.{slice_get_within}
 use Rattle.std.proofs.lemmas.List.{length-append}
 

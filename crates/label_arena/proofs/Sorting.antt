@@ -1,18 +1,15 @@
 -- Rows of labels by their coordinates.
-use Rattle.std.proofs.Common.{◌≡◌, ◌≢◌, ◌⊎◌, inl, inr, ℕ, ◌+◌, ◌-◌, ◌*◌, ◌/◌, ◌<◌, ◌≤◌, ◌≤ℤ◌, ◌<ℤ◌, ℤ, zero, suc, sym, refl, ap, ◌∙◌, subst, List, [], ◌∷◌, ◌++◌, length, map, arith, Option, Some, None, All, slice_get, slice_set, slice_index, slice_index_or, option_map, unwrap_or, pos, ⊎_elim}
+use Rattle.std.proofs.Common.{◌≡◌, ◌≢◌, ℕ, ◌+◌, ◌<◌, ◌≤◌, ◌≤ℤ◌, ◌<ℤ◌, ℤ, zero, suc, sym, ap, ◌∙◌, subst, List, [], ◌∷◌, length, arith, Option, Some, All, slice_get, slice_set, slice_index_or, option_map, unwrap_or, pos, ⊎_elim}
 use Rattle.std.specs.List.{insert}
-use Rattle.std.specs.Int.Signed.{<ℤ-≤ℤ_trans, ≤ℤ_refl}
 use Rattle.std.specs.Global.{Global}
 use Rattle.std.proofs.lemmas.Int.{ints}
-use Rattle.std.proofs.lemmas.Bool.{cases_eq, cases_lt}
+use Rattle.std.proofs.lemmas.Bool.{cases_eq}
 use Rattle.smallvec.specs.declared.small_vec.SmallVec.{SmallVec}
-use Rattle.std.proofs.lemmas.Option.{slice_get_within, slice_get-get_or, get_or_from_slice_get, unwrap_or-slice_get, same_Some}
-use Rattle.std.proofs.lemmas.List.{length-append, length-map, map-set}
-use Rattle.std.proofs.lemmas.List.Edits.{get_or-insert_at, get_or-insert_below, get_or-insert_above, length-insert}
+use Rattle.std.proofs.lemmas.Option.{slice_get-get_or, get_or_from_slice_get, unwrap_or-slice_get, same_Some}
+use Rattle.std.proofs.lemmas.List.{length-map, map-set}
 use Rattle.label_arena.specs.declared.place.Label.{Label}
-use Rattle.label_arena.specs.Ways.{IsLabelOf}
-use Rattle.label_arena.specs.Rows.{rows_of, row_at, coord_of, coord_at, IsSorted, IsRow, AreRows}
-use Rattle.label_arena.proofs.Lists.{get_left, get_last, get_more, get_cases, length_more, get_set_same, get_set_other}
+use Rattle.label_arena.specs.Rows.{rows_of, row_at, coord_of, coord_at, IsSorted}
+use Rattle.label_arena.proofs.Lists.{get_set_same, get_set_other}
 
 pub coord_is : (ls : List Label) (k : ℕ) (x : Label) → slice_get ls k ≡ Some x → coord_of ls k ≡ x.place.coord
 coord_is ls k x h = ap (λ (o : Option Label). unwrap_or (option_map (λ (x : Label). x.place.coord) o) (pos 0)) h
@@ -59,9 +56,9 @@ pub rows_cleared : (rows : List (SmallVec ℕ 2 Global)) (k : ℕ) (s : SmallVec
 rows_cleared rows k s l e h i b =
     rw (map-set (λ (r : SmallVec ℕ 2 Global). r.items) rows k s)
     (⊎_elim
-      (λ (q : k ≡ i). subst (λ (j : ℕ). slice_get (slice_set (rows_of rows) k s.items) j ≡ Some []) q (get_set_same (rows_of rows) k s.items (omega (arith, length-map rows (λ (r : SmallVec ℕ 2 Global). r.items))) ∙ ap Some e))
-      (λ (q : k ≢ i). get_set_other (rows_of rows) k i s.items (λ f. q (sym f)) ∙ h i (omega (arith, q)))
-      (cases_eq k i))
+    (λ (q : k ≡ i). subst (λ (j : ℕ). slice_get (slice_set (rows_of rows) k s.items) j ≡ Some []) q (get_set_same (rows_of rows) k s.items (omega (arith, length-map rows (λ (r : SmallVec ℕ 2 Global). r.items))) ∙ ap Some e))
+    (λ (q : k ≢ i). get_set_other (rows_of rows) k i s.items (λ f. q (sym f)) ∙ h i (omega (arith, q)))
+    (cases_eq k i))
 
 pub all_cleared : (rows : List (List ℕ)) (k : ℕ) → length rows ≤ k → ((i : ℕ) → i < k → slice_get rows i ≡ Some []) → All (λ (row : List ℕ). row ≡ []) rows
 all_cleared rows k l h i d b = get_or_from_slice_get rows i [] d (h i (omega arith))

@@ -1,5 +1,5 @@
 -- What an arena keeps beside its lists.
-use Rattle.std.specs.Prelude.{◌≡◌, ℕ, ◌+◌, ◌<◌, ◌≤◌, ◌==◌, if◌then◌else◌, true, Bool, List, [], ◌∷◌, length, slice_get, Some}
+use Rattle.std.specs.Prelude.{◌≡◌, ℕ, ◌+◌, ◌≤◌, ◌==◌, if◌then◌else◌, true, Bool, List, [], ◌∷◌, length, slice_get, Some}
 use Rattle.label_arena.specs.declared.place.Bridge.{Bridge}
 use Rattle.label_arena.specs.declared.place.Run.{Run}
 use Rattle.label_arena.specs.declared.place.Label.{Label}

@@ -1,5 +1,5 @@
 -- Which bridges, runs and labels an interval has.
-use Rattle.std.specs.Prelude.{◌≡◌, ◌⊎◌, ℕ, ◌<◌, ◌≤◌, ℤ, ◌≤ℤ◌, pos, List, slice_get, Some, Option, MatchOption, Contains, length, Bool, true}
+use Rattle.std.specs.Prelude.{◌≡◌, ◌⊎◌, ℕ, ◌≤ℤ◌, List, slice_get, Some, Option, MatchOption, Contains}
 use Rattle.label_arena.specs.declared.place.Place.{Place}
 use Rattle.label_arena.specs.declared.place.LabelNo.{LabelNo}
 use Rattle.label_arena.specs.declared.place.Label.{Label}

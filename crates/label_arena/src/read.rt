@@ -5,8 +5,8 @@ ghost use Rattle.label_arena.specs.Keeping.{AreInside};
 ghost use Rattle.label_arena.specs.Ways.{AreExactly, IsBridgeOf, IsRunOf, IsBelow, IsAbove};
 
 use crate::arena::Arena;
-use crate::row::{count_below, count_up_to};
 use crate::place::{Interval, IntervalNo, Label, LabelNo, Place};
+use crate::row::{count_below, count_up_to};
 use rt_base::{Point, Span, Vertex};
 
 impl Arena {

@@ -1,4 +1,4 @@
-use Rattle.std.proofs.Common.{length, arith}
+use Rattle.std.proofs.Common.{arith}
 use Rattle.std.proofs.lemmas.List.{length-map, length-set}
 use Rattle.label_arena.proofs.Sorting.{rows_cleared, all_cleared}
 use Rattle.label_arena.specs.Rows.{rows_of}

@@ -1,4 +1,4 @@
-use Rattle.std.proofs.Common.{ℕ, ◌+◌, ◌-◌, ◌/◌, ◌<◌, length, arith}
+use Rattle.std.proofs.Common.{◌+◌, ◌-◌, ◌/◌, ◌<◌, length, arith}
 use Rattle.label_arena.proofs.Sorting.{all_up_to, all_above}
 use Rattle.label_arena.proofs.row.count_up_to.Goals as goal
 

@@ -1,4 +1,4 @@
-use Rattle.std.proofs.Common.{◌≡◌, ap, sym, ◌∙◌, length, arith}
+use Rattle.std.proofs.Common.{ap, length, arith}
 use Rattle.label_arena.proofs.Sorting.{row_is, row_written}
 use Rattle.label_arena.proofs.row.insert.Goals as goal
 

@@ -1,6 +1,4 @@
-use Rattle.std.proofs.Common.{◌≡◌, ◌<◌, length, subst, sym, ap, refl, arith, List}
-use Rattle.label_arena.specs.declared.place.Interval.{Interval}
-use Rattle.label_arena.specs.Keeping.{IsKept}
+use Rattle.std.proofs.Common.{◌<◌, length, arith}
 use Rattle.label_arena.specs.Rows.{rows_of}
 use Rattle.label_arena.proofs.Keeping.{kept_rows, kept_interval}
 use Rattle.label_arena.proofs.arena.Arena.add_interval.Goals as goal

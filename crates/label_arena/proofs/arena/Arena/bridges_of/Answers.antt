@@ -1,7 +1,6 @@
-use Rattle.std.proofs.Common.{◌≡◌, ◌<◌, ◌≤◌, ◌∙◌, ap, sym, subst, length, true, Bool, arith}
-use Rattle.label_arena.specs.Lists.{Lists, Graph}
-use Rattle.label_arena.specs.Ways.{AreExactly, IsBridgeOf, IsRunOf}
-use Rattle.label_arena.specs.Groups.{HasRow, row_of, numbers_in}
+use Rattle.std.proofs.Common.{◌≡◌, ◌<◌, ◌≤◌, ◌∙◌, ap, length, true, arith}
+use Rattle.label_arena.specs.Lists.{Lists}
+use Rattle.label_arena.specs.Groups.{numbers_in}
 use Rattle.label_arena.specs.Keeping.{bridge_ends}
 use Rattle.label_arena.proofs.Ending.{bridges_exactly, bridges_few}
 use Rattle.label_arena.proofs.arena.Arena.bridges_of.Goals as goal

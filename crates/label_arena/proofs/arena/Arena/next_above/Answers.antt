@@ -1,4 +1,4 @@
-use Rattle.std.proofs.Common.{◌≡◌, ◌<◌, ◌-◌, ◌∙◌, ◌≤ℤ◌, ℕ, List, length, ap, subst, arith, slice_index}
+use Rattle.std.proofs.Common.{◌≡◌, ◌<◌, ◌∙◌, ◌≤ℤ◌, ℕ, List, length, ap, subst, arith, slice_index}
 use Rattle.label_arena.specs.declared.place.Label.{Label}
 use Rattle.label_arena.specs.Lists.{Lists}
 use Rattle.label_arena.specs.Ways.{IsLabelOf, IsNextAbove}

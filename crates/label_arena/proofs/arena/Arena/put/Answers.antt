@@ -34,14 +34,14 @@ invariant_of-self-in-Ok g c =
     let l : c.args.label.place.interval.0 < length c.self.inside.rows.items = omega (arith, within_rows _ _ _ _ _ _ _ _ c.self.invariant c.args.label.place inside, row_count c.self.inside.rows.items) in
     let same : c.as_slice.result.now ≡ row_at c.self.inside.rows.items c.args.label.place.interval.0 = c.as_slice.ensures ∙ row_is c.self.inside.rows.items c.args.label.place.interval.0 c.index.result.now l c.index.ensures in
     let before : (i : ℕ) → i < c.count_below-at.result → coord_at c.self.inside.labels.items (row_at c.self.inside.rows.items c.args.label.place.interval.0) i <ℤ c.args.label.place.coord =
-      subst (λ (ls : List Label). (i : ℕ) → i < c.count_below-at.result → coord_at ls (row_at c.self.inside.rows.items c.args.label.place.interval.0) i <ℤ c.args.label.place.coord) c.deref.ensures.value
-      (subst (λ (xs : List ℕ). (i : ℕ) → i < c.count_below-at.result → coord_at c.deref.result.now xs i <ℤ c.args.label.place.coord) same c.count_below-at.ensures.before) in
+    subst (λ (ls : List Label). (i : ℕ) → i < c.count_below-at.result → coord_at ls (row_at c.self.inside.rows.items c.args.label.place.interval.0) i <ℤ c.args.label.place.coord) c.deref.ensures.value
+    (subst (λ (xs : List ℕ). (i : ℕ) → i < c.count_below-at.result → coord_at c.deref.result.now xs i <ℤ c.args.label.place.coord) same c.count_below-at.ensures.before) in
     let after : (i : ℕ) → c.count_below-at.result ≤ i → i < length (row_at c.self.inside.rows.items c.args.label.place.interval.0) → c.args.label.place.coord ≤ℤ coord_at c.self.inside.labels.items (row_at c.self.inside.rows.items c.args.label.place.interval.0) i =
-      subst (λ (ls : List Label). (i : ℕ) → c.count_below-at.result ≤ i → i < length (row_at c.self.inside.rows.items c.args.label.place.interval.0) → c.args.label.place.coord ≤ℤ coord_at ls (row_at c.self.inside.rows.items c.args.label.place.interval.0) i) c.deref.ensures.value
-      (subst (λ (xs : List ℕ). (i : ℕ) → c.count_below-at.result ≤ i → i < length xs → c.args.label.place.coord ≤ℤ coord_at c.deref.result.now xs i) same c.count_below-at.ensures.after) in
+    subst (λ (ls : List Label). (i : ℕ) → c.count_below-at.result ≤ i → i < length (row_at c.self.inside.rows.items c.args.label.place.interval.0) → c.args.label.place.coord ≤ℤ coord_at ls (row_at c.self.inside.rows.items c.args.label.place.interval.0) i) c.deref.ensures.value
+    (subst (λ (xs : List ℕ). (i : ℕ) → c.count_below-at.result ≤ i → i < length xs → c.args.label.place.coord ≤ℤ coord_at c.deref.result.now xs i) same c.count_below-at.ensures.after) in
     let number : c.len-number.result ≡ length c.self.inside.labels.items = omega (arith, c.len-number.ensures) in
     kept_label _ _ _ _ _ _ _ _ c.self.invariant _ c.args.label _ _ c.count_below-at.result c.in_ok-push.ensures.items inside (row_got c.self.inside.rows.items c.args.label.place.interval.0 l) (omega (arith, ap length same, c.count_below-at.ensures.within)) before after
-      (c.in-Ok.ensures.ok ∙ ap (λ (n : ℕ). slice_set (rows_of c.self.inside.rows.items) c.args.label.place.interval.0 (insert (row_at c.self.inside.rows.items c.args.label.place.interval.0) c.count_below-at.result n)) number)
+    (c.in-Ok.ensures.ok ∙ ap (λ (n : ℕ). slice_set (rows_of c.self.inside.rows.items) c.args.label.place.interval.0 (insert (row_at c.self.inside.rows.items c.args.label.place.interval.0) c.count_below-at.result n)) number)
 
 pub invariant_of-self-in-Err : goal.invariant_of-self-in-Err
 invariant_of-self-in-Err g c =
