@@ -1,17 +1,8 @@
 -- The bound of a vertex.
-use Rattle.std.specs.Prelude.{◌≡◌, ℕ, ◌+◌, ◌-◌, ◌*◌, ◌≤◌, max, ℤ, ◌≤ℤ◌, List, map, Contains}
-use Rattle.std.specs.Int.{int_gap}
+use Rattle.std.specs.Prelude.{◌≡◌, ℕ, ◌+◌, ◌-◌, ◌*◌, ◌≤◌, min, max, ℤ, ◌≤ℤ◌, List, Contains}
+use Rattle.std.specs.Int.{int_gap, int_min, int_max}
 use Rattle.rt_base.specs.declared.walk.Vertex.{Vertex}
-
--- the least and the greatest x, y and level of some vertices, and the cost of a via
-pub record Hull : Type 0 where
-  pub xl : ℤ
-  pub xh : ℤ
-  pub yl : ℤ
-  pub yh : ℤ
-  pub bottom : ℕ
-  pub top : ℕ
-  pub via : ℕ
+use Rattle.future_cost.specs.declared.bound.Bound.{Bound}
 
 -- how far z lies outside the range from l to h
 abbrev pub outside : ℤ → ℤ → ℤ → ℕ
@@ -22,24 +13,33 @@ abbrev pub levels_outside : ℕ → ℕ → ℕ → ℕ
 levels_outside bottom top n = (bottom - n) + (n - top)
 
 -- the distances in x and y, and a via for each level
-abbrev pub under : Hull → Vertex → ℕ
-under h v = outside h.xl h.xh v.point.x + outside h.yl h.yh v.point.y + h.via * levels_outside h.bottom h.top v.level
+abbrev pub under : Bound → Vertex → ℕ
+under b v = outside b.x.lo b.x.hi v.point.x + outside b.y.lo b.y.hi v.point.y + b.via * levels_outside b.bottom b.top v.level
 
--- l is the least and h the greatest of these numbers
-pub record IsRange (zs : List ℤ) (l h : ℤ) : Type 0 where
-  pub low : Contains zs l
-  pub high : Contains zs h
-  pub least : (z : ℤ) → Contains zs z → l ≤ℤ z
-  pub greatest : (z : ℤ) → Contains zs z → z ≤ℤ h
+-- the range from l to h is the smallest with this coordinate of each target
+pub record IsRange (coord : Vertex → ℤ) (targets : List Vertex) (l h : ℤ) : Type 0 where
+  pub low : (v : Vertex) × Contains targets v × (coord v ≡ l)
+  pub high : (v : Vertex) × Contains targets v × (coord v ≡ h)
+  pub holds : (v : Vertex) → Contains targets v → (l ≤ℤ coord v) × (coord v ≤ℤ h)
 
-pub record IsLevelRange (ns : List ℕ) (l h : ℕ) : Type 0 where
-  pub low : Contains ns l
-  pub high : Contains ns h
-  pub least : (n : ℕ) → Contains ns n → l ≤ n
-  pub greatest : (n : ℕ) → Contains ns n → n ≤ h
+-- the range from bottom to top is the smallest with the level of each target
+pub record IsLevelRange (targets : List Vertex) (bottom top : ℕ) : Type 0 where
+  pub low : (v : Vertex) × Contains targets v × (v.level ≡ bottom)
+  pub high : (v : Vertex) × Contains targets v × (v.level ≡ top)
+  pub holds : (v : Vertex) → Contains targets v → (bottom ≤ v.level) × (v.level ≤ top)
 
--- the hull of the targets
-pub record IsHullOf (targets : List Vertex) (h : Hull) : Type 0 where
-  pub x : IsRange (map (λ (v : Vertex). v.point.x) targets) h.xl h.xh
-  pub y : IsRange (map (λ (v : Vertex). v.point.y) targets) h.yl h.yh
-  pub level : IsLevelRange (map (λ (v : Vertex). v.level) targets) h.bottom h.top
+-- the bound goes by the hull of the targets
+pub record IsHullOf (targets : List Vertex) (b : Bound) : Type 0 where
+  pub x : IsRange (λ (v : Vertex). v.point.x) targets b.x.lo b.x.hi
+  pub y : IsRange (λ (v : Vertex). v.point.y) targets b.y.lo b.y.hi
+  pub level : IsLevelRange targets b.bottom b.top
+
+-- the hull with one vertex more
+abbrev pub widened : Bound → Vertex → Bound
+widened b v = record {
+  x = record { lo = int_min b.x.lo v.point.x; hi = int_max b.x.hi v.point.x };
+  y = record { lo = int_min b.y.lo v.point.y; hi = int_max b.y.hi v.point.y };
+  bottom = min b.bottom v.level;
+  top = max b.top v.level;
+  via = b.via;
+}
