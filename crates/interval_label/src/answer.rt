@@ -205,6 +205,7 @@ pub fn label<L: Ledger>(
     ensures graph { arena.new.graph ≡ arena.old.graph }
 {
     arena.index()?;
+    // Its counts say that an arena's bridges and runs lie on its intervals.
     let _counts = arena.counts();
     let known = known_marks(alloc, arena, sources, targets)?;
     let stops = stops_of(alloc, arena, targets)?;
