@@ -6,7 +6,7 @@ use Rattle.label_arena.specs.declared.place.LabelNo.{LabelNo}
 use Rattle.label_arena.specs.Lists.{Graph}
 use Rattle.label_arena.specs.Plain.{IsInside, IsJoined, Reaches}
 use Rattle.bucket_queue.specs.Bag.{Bag}
-use Rattle.future_cost.specs.Under.{Hull}
+use Rattle.future_cost.specs.declared.bound.Bound.{Bound}
 use Rattle.interval_label.specs.Task.{Stop, left_at, IsPriced, IsBounded, AreStops, EndsAt, AreNear}
 use Rattle.interval_label.specs.Answers.{AreApart}
 use Rattle.interval_label.specs.Known.{Rows, KnowsMarks, HoldStops, IsWide}
@@ -84,7 +84,7 @@ module _ (g : Graph) (sources targets : List Stop) (b : Place → ℕ) (known : 
           less_left (most_places g) (length ls) (length ms) (ap (length {A = Label}) e ∙ length_more ls y) (omega (arith, few, ap (length {A = Label}) e))
 
 -- the graph is the same after a label is put
-pub puts_from : (g h : Graph) (targets : List Stop) (hull : Hull) (known : Option Rows) (n : ℕ) (number : LabelNo) (old mid new : Search) (x : Label) → h ≡ g → number.0 ≡ n → mid.queue ≡ old.queue → IsImproved h targets x number.0 (λ j. j < length targets) old.best mid.best → Grows h (left_at h hull) known number x mid new → Spreads h known new.queue.pairs x → Puts g targets (left_at g hull) known n old new x
+pub puts_from : (g h : Graph) (targets : List Stop) (hull : Bound) (known : Option Rows) (n : ℕ) (number : LabelNo) (old mid new : Search) (x : Label) → h ≡ g → number.0 ≡ n → mid.queue ≡ old.queue → IsImproved h targets x number.0 (λ j. j < length targets) old.best mid.best → Grows h (left_at h hull) known number x mid new → Spreads h known new.queue.pairs x → Puts g targets (left_at g hull) known n old new x
 puts_from g h targets hull known n number old mid new x e ne q imp gr sp =
     let i : IsImproved g targets x number.0 (λ j. j < length targets) old.best mid.best = subst (λ (k : Graph). IsImproved k targets x number.0 (λ j. j < length targets) old.best mid.best) e imp in
     let j : IsImproved g targets x n (λ j. j < length targets) old.best mid.best = subst (λ (m : ℕ). IsImproved g targets x m (λ j. j < length targets) old.best mid.best) ne i in
@@ -96,10 +96,10 @@ puts_from g h targets hull known n number old mid new x e ne q imp gr sp =
       spreads = subst (λ (k : Graph). Spreads k known new.queue.pairs x) e sp;
     }
 
-pub field_at : (g h : Graph) (hull : Hull) → h ≡ g → IsField g (left_at g hull) → IsField h (left_at h hull)
+pub field_at : (g h : Graph) (hull : Bound) → h ≡ g → IsField g (left_at g hull) → IsField h (left_at h hull)
 field_at g h hull e f = subst (λ (k : Graph). IsField k (left_at k hull)) (sym e) f
 
-pub spread_at : (g h : Graph) (hull : Hull) (old new : Search) (x : Label) → h ≡ g → new.queue ≡ old.queue → CanSpread g (left_at g hull) old x → CanSpread h (left_at h hull) new x
+pub spread_at : (g h : Graph) (hull : Bound) (old new : Search) (x : Label) → h ≡ g → new.queue ≡ old.queue → CanSpread g (left_at g hull) old x → CanSpread h (left_at h hull) new x
 spread_at g h hull old new x e q can =
     let c : CanSpread g (left_at g hull) new x = record { label_in = can.label_in; small = can.small; floor = omega (arith, can.floor, ap (λ (b : Bag Label). b.floor) q) } in
     subst (λ (k : Graph). CanSpread k (left_at k hull) new x) (sym e) c
@@ -112,7 +112,7 @@ is_wide g sources targets None k rows e = absurd (clash rows e)
 is_wide g sources targets (Some held) k rows e = subst (λ (r : Rows). length r ≡ length g.intervals) (same_Some held rows e) k.wide
 
 -- what is asked of a search, with what is known of its graph
-pub task_from : (g h : Graph) (sources targets : List Stop) (hull : Hull) (known : Option Rows) (stops : List (List ℕ)) → h ≡ g → IsJoined h → IsPriced g → IsBounded g (left_at g hull) → AreStops g sources → AreStops g targets → EndsAt (left_at g hull) targets → AreNear g sources → KnowsMarks h sources targets known → HoldStops h targets stops → IsTask h sources targets (left_at h hull) known stops
+pub task_from : (g h : Graph) (sources targets : List Stop) (hull : Bound) (known : Option Rows) (stops : List (List ℕ)) → h ≡ g → IsJoined h → IsPriced g → IsBounded g (left_at g hull) → AreStops g sources → AreStops g targets → EndsAt (left_at g hull) targets → AreNear g sources → KnowsMarks h sources targets known → HoldStops h targets stops → IsTask h sources targets (left_at h hull) known stops
 task_from g h sources targets hull known stops e joined priced bounded ss ts ends near knows held = record {
   field = record { joined = joined; priced = subst (λ (k : Graph). IsPriced k) (sym e) priced; bounded = subst (λ (k : Graph). IsBounded k (left_at k hull)) (sym e) bounded };
   sources_are = subst (λ (k : Graph). AreStops k sources) (sym e) ss;

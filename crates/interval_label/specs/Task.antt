@@ -1,6 +1,7 @@
 -- What is asked of a search, and of the arena and the bound that it is given.
 use Rattle.std.specs.Prelude.{◌≡◌, ℕ, ◌+◌, ◌*◌, ◌≤◌, ◌<◌, ◌^◌, List, slice_get, Some, Contains}
-use Rattle.future_cost.specs.Under.{Hull, under}
+use Rattle.future_cost.specs.declared.bound.Bound.{Bound}
+use Rattle.future_cost.specs.Under.{under}
 use Rattle.label_arena.specs.declared.place.Place.{Place}
 use Rattle.label_arena.specs.declared.place.Interval.{Interval}
 use Rattle.label_arena.specs.declared.place.Bridge.{Bridge}
@@ -13,8 +14,8 @@ abbrev pub Stop : Type 0
 Stop = Place × ℕ
 
 -- the bound at a place
-abbrev pub left_at : Graph → Hull → Place → ℕ
-left_at g hull p = under hull (vertex_of g p)
+abbrev pub left_at : Graph → Bound → Place → ℕ
+left_at g bound p = under bound (vertex_of g p)
 
 -- bridges, runs and whole intervals cost less than 2^60
 pub record IsPriced (g : Graph) : Type 0 where
