@@ -152,11 +152,12 @@ module _ (g : Graph) (sources targets : List Stop) (b : Place → ℕ) (o : Opti
         ends k J K y e r =
             let order : r.run.span.lo ≤ℤ r.run.span.hi = between r.run.span.lo y r.run.span.hi r.low r.high in
             let lo = same_z r.run.span.lo in
-            let hi = same_z r.run.span.hi in
-            (marks _ (mark_run_end g sources targets k (at J r.run.span.lo) (at K r.run.span.lo) e (over k J K y e r r.run.span.lo lo order) (inl refl)),
-            marks _ (mark_run_end g sources targets k (at J r.run.span.hi) (at K r.run.span.hi) e (over k J K y e r r.run.span.hi order hi) (inr refl)),
-            marks _ (mark_run_end g sources targets k (at K r.run.span.lo) (at J r.run.span.lo) e (over_back k J K y e r r.run.span.lo lo order) (inl refl)),
-            marks _ (mark_run_end g sources targets k (at K r.run.span.hi) (at J r.run.span.hi) e (over_back k J K y e r r.run.span.hi order hi) (inr refl)))
+            let hi = same_z r.run.span.hi in (
+              marks _ (mark_run_end g sources targets k (at J r.run.span.lo) (at K r.run.span.lo) e (over k J K y e r r.run.span.lo lo order) (inl refl)),
+              marks _ (mark_run_end g sources targets k (at J r.run.span.hi) (at K r.run.span.hi) e (over k J K y e r r.run.span.hi order hi) (inr refl)),
+              marks _ (mark_run_end g sources targets k (at K r.run.span.lo) (at J r.run.span.lo) e (over_back k J K y e r r.run.span.lo lo order) (inl refl)),
+              marks _ (mark_run_end g sources targets k (at K r.run.span.hi) (at J r.run.span.hi) e (over_back k J K y e r r.run.span.hi order hi) (inr refl)),
+            )
 
 -- each walk to a mark leads to where the search has come or has yet to come
 pub met_reached : (g : Graph) (sources targets : List Stop) (b : Place → ℕ) (o : Option Rows) (ls : List Label) (q : Queued) → IsSound g sources targets b o ls q → IsJoined g → IsConsistent g b → KnowsMarks g sources targets o → (v : Place) (c : ℕ) → IsMark g sources targets v → Reaches g sources v c → IsMet g b ls q v c

@@ -149,8 +149,10 @@ across_end g k run z v is side h =
 
 -- a way over a run leads across it
 pub way_across : (g : Graph) (k : ℕ) (u v : Place) (c : ℕ) (y : IsRunWay g k u v c) → IsAcross g k u.coord u × IsAcross g k u.coord v
-way_across g k u v c y = (record { run = y.run; at = y.at; low = y.low; high = y.high; on = ⊎_elim (λ (d : (u.interval ≡ y.run.a) × (v.interval ≡ y.run.b)). inl d.0) (λ (d : (u.interval ≡ y.run.b) × (v.interval ≡ y.run.a)). inr d.0) y.ends; coord = refl },
-    record { run = y.run; at = y.at; low = y.low; high = y.high; on = ⊎_elim (λ (d : (u.interval ≡ y.run.a) × (v.interval ≡ y.run.b)). inr d.1) (λ (d : (u.interval ≡ y.run.b) × (v.interval ≡ y.run.a)). inl d.1) y.ends; coord = sym y.straight })
+way_across g k u v c y = (
+  record { run = y.run; at = y.at; low = y.low; high = y.high; on = ⊎_elim (λ (d : (u.interval ≡ y.run.a) × (v.interval ≡ y.run.b)). inl d.0) (λ (d : (u.interval ≡ y.run.b) × (v.interval ≡ y.run.a)). inr d.0) y.ends; coord = refl },
+  record { run = y.run; at = y.at; low = y.low; high = y.high; on = ⊎_elim (λ (d : (u.interval ≡ y.run.a) × (v.interval ≡ y.run.b)). inr d.1) (λ (d : (u.interval ≡ y.run.b) × (v.interval ≡ y.run.a)). inl d.1) y.ends; coord = sym y.straight },
+)
 
 pub way_joined : (g : Graph) (k : ℕ) (u v : Place) (c : ℕ) → IsRunWay g k u v c → IsJoinedTo g u v
 way_joined g k u v c y = (k, record { run = y.run; at = y.at; touches = ⊎_elim (λ (d : (u.interval ≡ y.run.a) × (v.interval ≡ y.run.b)). inl (ap (λ (n : IntervalNo). n.0) (sym d.0))) (λ (d : (u.interval ≡ y.run.b) × (v.interval ≡ y.run.a)). inr (ap (λ (n : IntervalNo). n.0) (sym d.0))) y.ends }, (way_across g k u v c y).1)

@@ -21,7 +21,6 @@ flip h = ⊎_elim (λ d. inr (d.1, d.0)) (λ d. inl (d.1, d.0)) h
 
 -- Q says that a place is met at a cost. It is carried on between marks; so each walk that ends at a mark is met.
 module _ (g : Graph) (M : Place → Type 0) (Q : Place → ℕ → Type 0) (more : (v : Place) (c d : ℕ) → Q v c → c ≤ d → Q v d) (slides : (u v : Place) (c : ℕ) → M u → M v → IsInside g u → IsInside g v → u.interval ≡ v.interval → Q u c → Q v (c + slide g u v.coord)) (runs : (k : ℕ) (u v : Place) (c e : ℕ) → M u → Q u c → IsRunWay g k u v e → Q v (c + e)) (m_run : (k : ℕ) (u v : Place) (e : ℕ) → IsRunWay g k u v e → M u → M v) (run_in : (k : ℕ) (u v : Place) (e : ℕ) → IsRunWay g k u v e → IsInside g v) (ends : (k : ℕ) (J K : IntervalNo) (y : ℤ) (e : ℕ) (r : IsRunWay g k (at J y) (at K y) e) → M (at J r.run.span.lo) × M (at J r.run.span.hi) × M (at K r.run.span.lo) × M (at K r.run.span.hi)) where
-
   splitUp : (z y t : ℤ) → (y <ℤ t) → gap y t ≡ 1 → (z ≤ℤ t) → (z ≡ t) ⊎ (z ≤ℤ y)
   splitUp z y t h one b = ⊎_elim (λ (e : z ≡ t). inl e) (λ (n : z ≢ t). inr (omega (arith, ints, h, one, b, n))) (cases_z z t)
 
@@ -152,7 +151,7 @@ module _ (g : Graph) (M : Place → Type 0) (Q : Place → ℕ → Type 0) (more
         sum = (let le : factor_at g K.0 * gap s.start y ≤ s.slope * gap s.start y = mul-le-mul_right (gap s.start y) (omega (arith, steep)) in omega (arith, s.sum, le));
         clear = clear;
         onward = λ m a i mm none. (let le : factor_at g K.0 * gap s.start y ≤ s.slope * gap s.start y = mul-le-mul_right (gap s.start y) (omega (arith, steep)) in
-        more (at K m) _ _ (slides (at K s.start) (at K m) (s.base + e) mk mm ik i refl there) (omega (arith, s.sum, le, betweenUp (factor_at g K.0) s.start y m b a)));
+            more (at K m) _ _ (slides (at K s.start) (at K m) (s.base + e) mk mm ik i refl there) (omega (arith, s.sum, le, betweenUp (factor_at g K.0) s.start y m b a)));
       })
       (λ (gentle : s.slope ≤ factor_at g K.0). record {
         base = s.base + e;
@@ -309,7 +308,7 @@ module _ (g : Graph) (M : Place → Type 0) (Q : Place → ℕ → Type 0) (more
         sum = (let le : factor_at g K.0 * gap s.start y ≤ s.slope * gap s.start y = mul-le-mul_right (gap s.start y) (omega (arith, steep)) in omega (arith, s.sum, le));
         clear = clear;
         onward = λ m a i mm none. (let le : factor_at g K.0 * gap s.start y ≤ s.slope * gap s.start y = mul-le-mul_right (gap s.start y) (omega (arith, steep)) in
-        more (at K m) _ _ (slides (at K s.start) (at K m) (s.base + e) mk mm ik i refl there) (omega (arith, s.sum, le, betweenDown (factor_at g K.0) s.start y m b a)));
+            more (at K m) _ _ (slides (at K s.start) (at K m) (s.base + e) mk mm ik i refl there) (omega (arith, s.sum, le, betweenDown (factor_at g K.0) s.start y m b a)));
       })
       (λ (gentle : s.slope ≤ factor_at g K.0). record {
         base = s.base + e;
@@ -336,7 +335,6 @@ module _ (g : Graph) (M : Place → Type 0) (Q : Place → ℕ → Type 0) (more
       })
       (cases_lt (factor_at g K.0) s.slope)
 
-
   -- where a walk that costs w has come
   At : IntervalNo → ℤ → ℕ → Type 0
   At J x w = (M (at J x) × Q (at J x) w) ⊎ ((M (at J x) → ⊥) × (StripUp J x w ⊎ StripDown J x w))
@@ -345,23 +343,29 @@ module _ (g : Graph) (M : Place → Type 0) (Q : Place → ℕ → Type 0) (more
     at_next : (J : IntervalNo) (x y : ℤ) (w : ℕ) → IsInside g (at J x) → IsInside g (at J y) → gap x y ≡ 1 → At J x w → At J y (w + factor_at g J.0)
     unfolding At
     at_next J x y w ix iy one h = ⊎_elim
-        (λ (my : M (at J y)). inl (my, ⊎_elim
-        (λ (a : M (at J x) × Q (at J x) w). more (at J y) _ _ (slides (at J x) (at J y) w a.0 my ix iy refl a.1) (omega (arith, ap (λ n. factor_at g J.0 * n) one)))
-        (λ (a : (M (at J x) → ⊥) × (StripUp J x w ⊎ StripDown J x w)). ⊎_elim
-        (λ (l : x <ℤ y). ⊎_elim (λ (s : StripUp J x w). arriveUp J x y w s l one a.0 my iy) (λ (s : StripDown J x w). returnDown J x y w s l one my) a.1)
-        (λ (l : y <ℤ x). ⊎_elim (λ (s : StripUp J x w). returnUp J x y w s l one my) (λ (s : StripDown J x w). arriveDown J x y w s l one a.0 my iy) a.1)
-        (sides x y one))
-        h))
-        (λ (ny : M (at J y) → ⊥). inr (ny, ⊎_elim
-        (λ (a : M (at J x) × Q (at J x) w). ⊎_elim
-        (λ (l : x <ℤ y). inl (enterUp J x y w a.0 ix a.1 l one ny))
-        (λ (l : y <ℤ x). inr (enterDown J x y w a.0 ix a.1 l one ny))
-        (sides x y one))
-        (λ (a : (M (at J x) → ⊥) × (StripUp J x w ⊎ StripDown J x w)). ⊎_elim
-        (λ (l : x <ℤ y). ⊎_elim (λ (s : StripUp J x w). inl (forwardUp J x y w s l one a.0 ny)) (λ (s : StripDown J x w). inr (backDown J x y w s l one a.0 ny)) a.1)
-        (λ (l : y <ℤ x). ⊎_elim (λ (s : StripUp J x w). inl (backUp J x y w s l one a.0 ny)) (λ (s : StripDown J x w). inr (forwardDown J x y w s l one a.0 ny)) a.1)
-        (sides x y one))
-        h))
+        (λ (my : M (at J y)). inl (
+          my,
+          ⊎_elim
+              (λ (a : M (at J x) × Q (at J x) w). more (at J y) _ _ (slides (at J x) (at J y) w a.0 my ix iy refl a.1) (omega (arith, ap (λ n. factor_at g J.0 * n) one)))
+              (λ (a : (M (at J x) → ⊥) × (StripUp J x w ⊎ StripDown J x w)). ⊎_elim
+              (λ (l : x <ℤ y). ⊎_elim (λ (s : StripUp J x w). arriveUp J x y w s l one a.0 my iy) (λ (s : StripDown J x w). returnDown J x y w s l one my) a.1)
+              (λ (l : y <ℤ x). ⊎_elim (λ (s : StripUp J x w). returnUp J x y w s l one my) (λ (s : StripDown J x w). arriveDown J x y w s l one a.0 my iy) a.1)
+              (sides x y one))
+              h,
+        ))
+        (λ (ny : M (at J y) → ⊥). inr (
+          ny,
+          ⊎_elim
+              (λ (a : M (at J x) × Q (at J x) w). ⊎_elim
+              (λ (l : x <ℤ y). inl (enterUp J x y w a.0 ix a.1 l one ny))
+              (λ (l : y <ℤ x). inr (enterDown J x y w a.0 ix a.1 l one ny))
+              (sides x y one))
+              (λ (a : (M (at J x) → ⊥) × (StripUp J x w ⊎ StripDown J x w)). ⊎_elim
+              (λ (l : x <ℤ y). ⊎_elim (λ (s : StripUp J x w). inl (forwardUp J x y w s l one a.0 ny)) (λ (s : StripDown J x w). inr (backDown J x y w s l one a.0 ny)) a.1)
+              (λ (l : y <ℤ x). ⊎_elim (λ (s : StripUp J x w). inl (backUp J x y w s l one a.0 ny)) (λ (s : StripDown J x w). inr (forwardDown J x y w s l one a.0 ny)) a.1)
+              (sides x y one))
+              h,
+        ))
         (decide (at J y))
       where
         sides : (x y : ℤ) → gap x y ≡ 1 → (x <ℤ y) ⊎ (y <ℤ x)
@@ -371,10 +375,13 @@ module _ (g : Graph) (M : Place → Type 0) (Q : Place → ℕ → Type 0) (more
     unfolding At
     at_run k J K y w e r h = ⊎_elim
         (λ (a : M (at J y) × Q (at J y) w). inl (m_run k (at J y) (at K y) e r a.0, runs k (at J y) (at K y) w e a.0 a.1 r))
-        (λ (a : (M (at J y) → ⊥) × (StripUp J y w ⊎ StripDown J y w)). inr ((λ m. a.0 (m_run k (at K y) (at J y) e (record { run = r.run; at = r.at; ends = flip r.ends; straight = refl; low = r.low; high = r.high; cost = r.cost }) m)), ⊎_elim
-        (λ (s : StripUp J y w). inl (crossUp k J K y w e s r a.0))
-        (λ (s : StripDown J y w). inr (crossDown k J K y w e s r a.0))
-        a.1))
+        (λ (a : (M (at J y) → ⊥) × (StripUp J y w ⊎ StripDown J y w)). inr (
+          (λ m. a.0 (m_run k (at K y) (at J y) e (record { run = r.run; at = r.at; ends = flip r.ends; straight = refl; low = r.low; high = r.high; cost = r.cost }) m)),
+          ⊎_elim
+              (λ (s : StripUp J y w). inl (crossUp k J K y w e s r a.0))
+              (λ (s : StripDown J y w). inr (crossDown k J K y w e s r a.0))
+              a.1,
+        ))
         h
 
     module _ (m_point : (k : ℕ) (u v : Place) (e : ℕ) → IsPointWay g k u v e → M u × M v) (points : (k : ℕ) (u v : Place) (c e : ℕ) → M u → Q u c → IsPointWay g k u v e → Q v (c + e)) where
@@ -385,10 +392,13 @@ module _ (g : Graph) (M : Place → Type 0) (Q : Place → ℕ → Type 0) (more
             let there : At u.interval v.coord (w + factor_at g u.interval.0) = at_next u.interval u.coord v.coord w n.from (subst (λ (j : IntervalNo). IsInside g (at j v.coord)) (sym n.one_interval) n.to) n.near h in
             subst (λ (j : IntervalNo). At j v.coord (w + e)) n.one_interval (subst (λ (f : ℕ). At u.interval v.coord (w + f)) (sym n.cost) there)
         | inr t ↦ elim t [
-          | inl p ↦ inl ((m_point p.0 u v e p.1).1, ⊎_elim
-              (λ (a : M u × Q u w). points p.0 u v w e a.0 a.1 p.1)
-              (λ (a : (M u → ⊥) × (StripUp u.interval u.coord w ⊎ StripDown u.interval u.coord w)). absurd (a.0 (m_point p.0 u v e p.1).0))
-              h)
+          | inl p ↦ inl (
+            (m_point p.0 u v e p.1).1,
+            ⊎_elim
+                (λ (a : M u × Q u w). points p.0 u v w e a.0 a.1 p.1)
+                (λ (a : (M u → ⊥) × (StripUp u.interval u.coord w ⊎ StripDown u.interval u.coord w)). absurd (a.0 (m_point p.0 u v e p.1).0))
+                h,
+          )
           | inr r ↦
               let way : IsRunWay g r.0 (at u.interval u.coord) (at v.interval u.coord) e = record { run = r.1.run; at = r.1.at; ends = r.1.ends; straight = refl; low = r.1.low; high = r.1.high; cost = r.1.cost } in
               subst (λ (z : ℤ). At v.interval z (w + e)) r.1.straight (at_run r.0 u.interval v.interval u.coord w e way h)

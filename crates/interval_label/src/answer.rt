@@ -34,7 +34,12 @@ pub enum Reached {
 }
 
 /// A search whose candidates are the sources.
-fn begin(alloc: Global, arena: &Arena, sources: &[(Place, u64)], bound: &Bound) -> Result<Search, Memory>
+fn begin(
+    alloc: Global,
+    arena: &Arena,
+    sources: &[(Place, u64)],
+    bound: &Bound,
+) -> Result<Search, Memory>
     requires sources { AreStops arena.now.graph sources.now }
     requires bounded { IsBounded arena.now.graph (left_at arena.now.graph bound.now) }
     ensures { IfOk result (Begins sources.now (left_at arena.now.graph bound.now)) }
@@ -109,7 +114,16 @@ fn explore<L: Ledger>(
 {
     let mut search = begin(alloc, arena, sources, bound)?;
     'labels: while let Some(candidate) = search.take(arena) {
-        put(arena, &mut search, targets, bound, known, stops, candidate, steps)?;
+        put(
+            arena,
+            &mut search,
+            targets,
+            bound,
+            known,
+            stops,
+            candidate,
+            steps,
+        )?;
     }
     Ok(search.best)
 }
@@ -163,7 +177,11 @@ fn finish<L: Ledger>(
     let target = best.target;
     let place = stop_at(targets, target).0;
     if let Some(label) = label_at(arena, place) {
-        return Ok(Reached::Cost { cost, target, label });
+        return Ok(Reached::Cost {
+            cost,
+            target,
+            label,
+        });
     }
     let number = LabelNo(best.number);
     let from = arena.label(number);
@@ -175,7 +193,11 @@ fn finish<L: Ledger>(
         origin: Some(number),
     };
     let label = arena.put(end, steps)?;
-    Ok(Reached::Cost { cost, target, label })
+    Ok(Reached::Cost {
+        cost,
+        target,
+        label,
+    })
 }
 
 /// Labels marks of an arena until the least cost of a walk from a source to a target is known. Sources

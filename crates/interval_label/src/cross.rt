@@ -107,7 +107,17 @@ impl Search {
         if !holds(run, near) {
             return Ok(());
         }
-        self.cross(arena, bound, known, number, label, near, mark.on(to), run.cost, By::Run)?;
+        self.cross(
+            arena,
+            bound,
+            known,
+            number,
+            label,
+            near,
+            mark.on(to),
+            run.cost,
+            By::Run,
+        )?;
         Ok(())
     }
 
@@ -169,7 +179,17 @@ impl Search {
         }
         let near = beside(run, from, label.place);
         let far = beside(run, to, label.place);
-        self.cross(arena, bound, known, number, label, near, far, run.cost, By::Run)?;
+        self.cross(
+            arena,
+            bound,
+            known,
+            number,
+            label,
+            near,
+            far,
+            run.cost,
+            By::Run,
+        )?;
         self.climb(arena, bound, known, number, label, k, run, from, to)?;
         Ok(())
     }

@@ -37,7 +37,11 @@ pub fn add_to<T: Drop>(rows: &mut Seq<Seq<T>>, no: IntervalNo, item: T) -> Resul
 }
 
 /// The numbers of the targets on each interval.
-pub fn stops_of(alloc: Global, arena: &Arena, targets: &[(Place, u64)]) -> Result<Seq<Seq<u64>>, Memory>
+pub fn stops_of(
+    alloc: Global,
+    arena: &Arena,
+    targets: &[(Place, u64)],
+) -> Result<Seq<Seq<u64>>, Memory>
     requires { AreStops arena.now.graph targets.now }
     ensures { IfOk result (HoldStops arena.now.graph targets.now) }
 {

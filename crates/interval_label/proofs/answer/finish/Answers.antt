@@ -102,4 +102,3 @@ pub returns-clause-steps : goal.returns-clause-steps
 returns-clause-steps g c =
     let y : Label = record { place = c.stop_at.result.0; dist = c.label-from.result.dist + c.along.result; by = Slide; origin = Some (record { 0 = c.in-Some.best.number }) } in
     omega (arith, c.in_ok-label.ensures.step, ap (length {A = Label}) c.in_ok-label.ensures.labels, length_more c.args.arena.now.labels y)
-

@@ -52,4 +52,3 @@ returns-clause-steps g c = on_ok c.finish.result (λ (e : c.finish.new.steps + l
 
 pub returns-clause-graph : goal.returns-clause-graph
 returns-clause-graph g c = c.finish.ensures.graph ∙ (c.explore.ensures.graph ∙ c.in_ok-index.ensures.graph)
-

@@ -42,14 +42,16 @@ bridges-preserved c =
           first c.in_ok-add-2.ensures.ok;
       all = λ j b l h. ⊎_elim
           (λ (l : j < c.bridges.k).
-          let o : Contains c.bridges.self.list.items b.a × Contains c.bridges.self.list.items b.b = c.bridges.invariant.all j b l h in
-          (marks_kept c.args.arena.now.graph (λ v. v ≡ p.b) c.add.new.self c.add-in-bridges.new.self c.in_ok-add-2.ensures.ok b.a (marks_kept c.args.arena.now.graph (λ v. v ≡ p.a) c.bridges.self c.add.new.self c.in_ok-add.ensures.ok b.a o.0),
-          marks_kept c.args.arena.now.graph (λ v. v ≡ p.b) c.add.new.self c.add-in-bridges.new.self c.in_ok-add-2.ensures.ok b.b (marks_kept c.args.arena.now.graph (λ v. v ≡ p.a) c.bridges.self c.add.new.self c.in_ok-add.ensures.ok b.b o.1)))
+          let o : Contains c.bridges.self.list.items b.a × Contains c.bridges.self.list.items b.b = c.bridges.invariant.all j b l h in (
+            marks_kept c.args.arena.now.graph (λ v. v ≡ p.b) c.add.new.self c.add-in-bridges.new.self c.in_ok-add-2.ensures.ok b.a (marks_kept c.args.arena.now.graph (λ v. v ≡ p.a) c.bridges.self c.add.new.self c.in_ok-add.ensures.ok b.a o.0),
+            marks_kept c.args.arena.now.graph (λ v. v ≡ p.b) c.add.new.self c.add-in-bridges.new.self c.in_ok-add-2.ensures.ok b.b (marks_kept c.args.arena.now.graph (λ v. v ≡ p.a) c.bridges.self c.add.new.self c.in_ok-add.ensures.ok b.b o.1),
+          ))
           (λ (m : c.bridges.k ≤ j).
           let e : c.bridges.k ≡ j = omega (arith, l) in
-          let same : p ≡ b = same_Some p b (sym c.point-point.ensures ∙ ap (slice_get c.args.arena.now.graph.bridges) e ∙ h) in
-          (subst (λ (z : Bridge). Contains c.add-in-bridges.new.self.list.items z.a) same (marks_kept c.args.arena.now.graph (λ v. v ≡ p.b) c.add.new.self c.add-in-bridges.new.self c.in_ok-add-2.ensures.ok p.a c.in_ok-add.ensures.has),
-          subst (λ (z : Bridge). Contains c.add-in-bridges.new.self.list.items z.b) same c.in_ok-add-2.ensures.has))
+          let same : p ≡ b = same_Some p b (sym c.point-point.ensures ∙ ap (slice_get c.args.arena.now.graph.bridges) e ∙ h) in (
+            subst (λ (z : Bridge). Contains c.add-in-bridges.new.self.list.items z.a) same (marks_kept c.args.arena.now.graph (λ v. v ≡ p.b) c.add.new.self c.add-in-bridges.new.self c.in_ok-add-2.ensures.ok p.a c.in_ok-add.ensures.has),
+            subst (λ (z : Bridge). Contains c.add-in-bridges.new.self.list.items z.b) same c.in_ok-add-2.ensures.has,
+          ))
           (cases_lt j c.bridges.k);
     }
 

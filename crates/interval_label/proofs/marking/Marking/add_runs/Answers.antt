@@ -53,9 +53,10 @@ runs-preserved c =
           let e : c.runs.k ≡ j = omega (arith, l) in
           let same : c.run_of-run.result ≡ run = same_Some c.run_of-run.result run (sym c.run_of-run.ensures ∙ ap (slice_get c.args.arena.now.graph.runs) e ∙ h) in
           let lo : run.span.lo ≡ c.low_end.result.coord = sym (c.low_end.ensures ∙ ap (λ (z : Run). z.span.lo) same) in
-          let hi : run.span.hi ≡ c.high_end.result.coord = sym (c.high_end.ensures ∙ ap (λ (z : Run). z.span.hi) same) in
-          (λ a. marks_kept c.args.arena.now.graph (IsAcross c.args.arena.now.graph c.runs.k c.high_end.result.coord) c.add_across.new.self c.add_across-in-runs.new.self c.in_ok-add_across-2.ensures.ok v (c.in_ok-add_across.ensures.all v (subst (λ (n : ℕ). IsAcross c.args.arena.now.graph n c.low_end.result.coord v) (sym e) (subst (λ (z : ℤ). IsAcross c.args.arena.now.graph j z v) lo a))),
-          λ a. c.in_ok-add_across-2.ensures.all v (subst (λ (n : ℕ). IsAcross c.args.arena.now.graph n c.high_end.result.coord v) (sym e) (subst (λ (z : ℤ). IsAcross c.args.arena.now.graph j z v) hi a))))
+          let hi : run.span.hi ≡ c.high_end.result.coord = sym (c.high_end.ensures ∙ ap (λ (z : Run). z.span.hi) same) in (
+            λ a. marks_kept c.args.arena.now.graph (IsAcross c.args.arena.now.graph c.runs.k c.high_end.result.coord) c.add_across.new.self c.add_across-in-runs.new.self c.in_ok-add_across-2.ensures.ok v (c.in_ok-add_across.ensures.all v (subst (λ (n : ℕ). IsAcross c.args.arena.now.graph n c.low_end.result.coord v) (sym e) (subst (λ (z : ℤ). IsAcross c.args.arena.now.graph j z v) lo a))),
+            λ a. c.in_ok-add_across-2.ensures.all v (subst (λ (n : ℕ). IsAcross c.args.arena.now.graph n c.high_end.result.coord v) (sym e) (subst (λ (z : ℤ). IsAcross c.args.arena.now.graph j z v) hi a)),
+          ))
           (cases_lt j c.runs.k);
     }
 
