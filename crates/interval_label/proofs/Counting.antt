@@ -1,4 +1,4 @@
-use Rattle.std.proofs.Common.{◌≡◌, ◌⊎◌, inl, inr, ℕ, zero, suc, ◌+◌, ◌*◌, ◌-◌, ◌^◌, ◌<◌, ◌≤◌, ℤ, pos, ◌≤ℤ◌, ◌-ℤ◌, unsigned_abs, sym, refl, ap, ◌∙◌, subst, List, [], ◌∷◌, ◌||◌, Bool, true, false, length, map, sum_by, Option, Some, None, slice_get, option_map, unwrap_or, eqb, Any, arith, ⊎_elim}
+use Rattle.std.proofs.Common.{◌≡◌, ◌⊎◌, ℕ, zero, suc, ◌+◌, ◌*◌, ◌<◌, ◌≤◌, ℤ, pos, ◌≤ℤ◌, sym, refl, ap, ◌∙◌, List, [], ◌∷◌, ◌||◌, Bool, true, false, length, map, sum_by, Option, Some, slice_get, option_map, unwrap_or, eqb, arith, ⊎_elim}
 use Rattle.std.specs.List.{IsDistinct, AllByRecursion, list_any}
 use Rattle.std.proofs.lemmas.Bool.{cases_eq}
 use Rattle.std.proofs.lemmas.Int.{ints}

@@ -1,15 +1,15 @@
-use Rattle.std.proofs.Common.{◌≡◌, ◌⊎◌, inl, inr, ℕ, ◌+◌, ◌*◌, ◌<◌, ◌≤◌, ℤ, ◌≤ℤ◌, sym, refl, ap, ◌∙◌, subst, List, [], ◌∷◌, ◌++◌, length, Option, Some, None, MatchOption, slice_get, Contains, arith, ⊎_elim}
+use Rattle.std.proofs.Common.{◌≡◌, inl, inr, ℕ, ◌+◌, ◌≤◌, sym, refl, subst, List, [], ◌∷◌, ◌++◌, length, Option, Some, None, MatchOption, arith}
 use Rattle.label_arena.specs.declared.place.Place.{Place}
 use Rattle.label_arena.specs.declared.place.Label.{Label}
 use Rattle.label_arena.specs.declared.place.LabelNo.{LabelNo}
 use Rattle.label_arena.specs.declared.place.By.{By}
 use Rattle.label_arena.specs.declared.place.By.TheVariants.{Source, Slide, Point, Run as OverRun}
 use Rattle.label_arena.specs.Lists.{Graph}
-use Rattle.label_arena.specs.Plain.{gap, slide, IsInside, IsNext, IsStep, IsPointWay, IsRunWay, IsConsistent, Reaches}
-use Rattle.label_arena.specs.Marks.{IsMark, IsBridgeEnd, IsRunEnd}
-use Rattle.label_arena.specs.Traces.{IsTraced, IsFrom, IsSource, Leads, IsSlide, IsOver, IsSomeRun}
+use Rattle.label_arena.specs.Plain.{slide, IsInside, IsStep, IsConsistent, Reaches}
+use Rattle.label_arena.specs.Marks.{IsMark}
+use Rattle.label_arena.specs.Traces.{IsFrom, IsSource, Leads, IsSlide}
 use Rattle.interval_label.specs.Task.{Stop}
-use Rattle.interval_label.specs.Known.{Rows, IsListed, IsKnown, KnowsMarks, HoldMarks, AreEven}
+use Rattle.interval_label.specs.Known.{Rows, IsListed, IsKnown, KnowsMarks}
 use Rattle.interval_label.specs.Search.{WayBy, LeadsToMark, IsCrossed}
 use Rattle.interval_label.specs.State.{IsLabel}
 use Rattle.interval_label.proofs.Lists.{get_last, length_more}

@@ -6,10 +6,10 @@ use Rattle.label_arena.specs.declared.place.IntervalNo.{IntervalNo}
 use Rattle.label_arena.specs.declared.place.LabelNo.{LabelNo}
 use Rattle.label_arena.specs.declared.place.Label.{Label}
 use Rattle.label_arena.specs.Lists.{Graph}
-use Rattle.label_arena.specs.Plain.{gap, factor_at, slide, IsInside}
-use Rattle.label_arena.specs.Ways.{IsLabelOf, IsNextBelow, IsNextAbove, IsBelow, IsAbove}
+use Rattle.label_arena.specs.Plain.{gap, factor_at, slide}
+use Rattle.label_arena.specs.Ways.{IsBelow, IsAbove}
 use Rattle.interval_label.specs.Search.{IsExplained, IsExplainedBy, IsOn, AreSettled}
-use Rattle.interval_label.proofs.Gaps.{gap_between, gap_sym}
+use Rattle.interval_label.proofs.Gaps.{gap_between}
 use Rattle.interval_label.proofs.Costs.{interval_same}
 
 -- a label next to the place explains it where one beyond it does

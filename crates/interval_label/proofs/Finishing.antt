@@ -1,4 +1,4 @@
-use Rattle.std.proofs.Common.{◌≡◌, ◌⊎◌, inl, inr, ℕ, ◌+◌, ◌<◌, ◌≤◌, sym, refl, ap, ◌∙◌, subst, List, [], ◌∷◌, ◌++◌, length, Option, Some, None, MatchOption, slice_get, Contains, arith, ⊎_elim}
+use Rattle.std.proofs.Common.{◌≡◌, ℕ, ◌+◌, ◌<◌, ◌≤◌, sym, refl, ap, ◌∙◌, subst, List, [], ◌∷◌, ◌++◌, length, Option, Some, None, MatchOption, slice_get, Contains, arith, ⊎_elim}
 use Rattle.std.proofs.lemmas.Option.{same_Some, slice_get_within}
 use Rattle.label_arena.specs.declared.place.Place.{Place}
 use Rattle.label_arena.specs.declared.place.Label.{Label}
@@ -6,17 +6,16 @@ use Rattle.label_arena.specs.declared.place.LabelNo.{LabelNo}
 use Rattle.label_arena.specs.declared.place.By.{By}
 use Rattle.label_arena.specs.declared.place.By.TheVariants.{Source, Slide}
 use Rattle.label_arena.specs.Lists.{Graph}
-use Rattle.label_arena.specs.Plain.{gap, slide, IsInside, Reaches, IsLeast}
+use Rattle.label_arena.specs.Plain.{slide, IsInside, Reaches, IsLeast}
 use Rattle.label_arena.specs.Marks.{IsMark}
 use Rattle.label_arena.specs.Traces.{IsTraced, IsFrom, IsSource, Leads, IsSlide}
 use Rattle.interval_label.specs.Task.{Stop}
 use Rattle.interval_label.specs.Answers.{IsFound, HasNone, AreApart, AreLeast, Explains}
 use Rattle.interval_label.specs.Known.{Rows}
-use Rattle.interval_label.specs.Queue.{Queued}
-use Rattle.interval_label.specs.Search.{IsExplained, IsSlideTo, IsReached}
-use Rattle.interval_label.specs.State.{IsLabel, IsTask, IsOffer, IsRunning, IsFinished, IsAt, NoneAt}
+use Rattle.interval_label.specs.Search.{IsExplained, IsReached}
+use Rattle.interval_label.specs.State.{IsLabel, IsTask, IsOffer, IsFinished, IsAt, NoneAt}
 use Rattle.interval_label.specs.declared.search.Best.{Best}
-use Rattle.interval_label.proofs.Lists.{get_kept, get_last, last_cases}
+use Rattle.interval_label.proofs.Lists.{get_last, last_cases}
 use Rattle.interval_label.proofs.Reaching.{reaches_slid}
 use Rattle.interval_label.proofs.Standing.{mark_target, mark_inside}
 use Rattle.interval_label.proofs.Frontier.{IsMet, IsPending, met_reached}

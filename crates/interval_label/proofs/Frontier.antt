@@ -1,19 +1,17 @@
-use Rattle.std.proofs.Common.{◌≡◌, ◌⊎◌, inl, inr, ℕ, zero, suc, ◌+◌, ◌*◌, ◌<◌, ◌≤◌, ℤ, ◌≤ℤ◌, sym, refl, ap, ◌∙◌, subst, List, [], ◌∷◌, Option, Some, None, slice_get, Contains, All, arith, ⊎_elim}
-use Rattle.std.proofs.lemmas.Option.{same_Some}
+use Rattle.std.proofs.Common.{◌≡◌, ◌⊎◌, inl, inr, ℕ, ◌+◌, ◌*◌, ◌<◌, ◌≤◌, ℤ, ◌≤ℤ◌, sym, refl, ap, ◌∙◌, subst, List, Option, Some, None, Contains, All, arith, ⊎_elim}
 use Rattle.std.proofs.lemmas.Bool.{cases_lt}
 use Rattle.std.proofs.lemmas.Int.{ints}
 use Rattle.std.proofs.lemmas.List.Elements.{All-contains}
 use Rattle.std.proofs.Math.Nat.{mul-le-mul_right}
 use Rattle.label_arena.specs.declared.place.Place.{Place}
 use Rattle.label_arena.specs.declared.place.IntervalNo.{IntervalNo}
-use Rattle.label_arena.specs.declared.place.Run.{Run}
 use Rattle.label_arena.specs.declared.place.Label.{Label}
 use Rattle.label_arena.specs.Lists.{Graph}
 use Rattle.label_arena.specs.Marks.{IsMark}
-use Rattle.label_arena.specs.Plain.{gap, factor_at, slide, IsInside, IsNext, IsStep, IsPointWay, IsRunWay, Reaches, IsConsistent, IsJoined}
+use Rattle.label_arena.specs.Plain.{gap, factor_at, slide, IsInside, IsNext, IsPointWay, IsRunWay, Reaches, IsConsistent, IsJoined}
 use Rattle.interval_label.specs.Task.{Stop}
 use Rattle.interval_label.proofs.Standing.{mark_source, mark_bridge, mark_run_end, mark_along}
-use Rattle.interval_label.specs.Known.{Rows, row_at, IsListed, IsKnown, KnowsMarks, HoldMarks, AreEven}
+use Rattle.interval_label.specs.Known.{Rows, row_at, IsListed, IsKnown, KnowsMarks}
 use Rattle.interval_label.specs.Queue.{Queued, IsWaiting}
 use Rattle.interval_label.specs.Search.{IsExplained, clamped}
 use Rattle.interval_label.specs.State.{IsCovered, IsSound}

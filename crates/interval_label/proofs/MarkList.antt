@@ -1,4 +1,4 @@
-use Rattle.std.proofs.Common.{◌≡◌, ◌⊎◌, inl, inr, ℕ, zero, suc, ◌+◌, ◌-◌, ◌<◌, ◌≤◌, ℤ, ◌≤ℤ◌, sym, refl, ap, ◌∙◌, subst, List, [], ◌∷◌, ◌++◌, length, Option, Some, None, slice_get, slice_index_or, Contains, arith, ⊎_elim}
+use Rattle.std.proofs.Common.{◌≡◌, ◌⊎◌, inl, inr, ℕ, zero, suc, ◌<◌, ◌≤◌, ℤ, ◌≤ℤ◌, sym, refl, ap, ◌∙◌, subst, List, [], ◌∷◌, ◌++◌, length, Some, slice_get, slice_index_or, Contains, arith, ⊎_elim}
 use Rattle.std.proofs.lemmas.Option.{same_Some, slice_get_within, slice_get_read, slice_get-get_or, get_or_from_slice_get}
 use Rattle.std.proofs.lemmas.List.Elements.{Contains-append_left, Contains-append_right, Contains-append_cases}
 use Rattle.label_arena.specs.declared.place.Place.{Place}
@@ -6,15 +6,14 @@ use Rattle.label_arena.specs.declared.place.IntervalNo.{IntervalNo}
 use Rattle.label_arena.specs.declared.place.Bridge.{Bridge}
 use Rattle.label_arena.specs.declared.place.Run.{Run}
 use Rattle.label_arena.specs.Lists.{Graph}
-use Rattle.label_arena.specs.Plain.{IsInside, IsPointWay, IsRunWay, IsJoined, IsRun}
+use Rattle.label_arena.specs.Plain.{IsInside, IsRunWay, IsJoined, IsRun}
 use Rattle.label_arena.specs.Marks.{IsMark, IsMarkBy, IsStop, IsBridgeEnd, IsRunEnd}
-use Rattle.label_arena.specs.Ways.{AreExactly, IsRunOf}
 use Rattle.interval_label.specs.Task.{Stop}
-use Rattle.interval_label.specs.Known.{Rows, row_at, IsListed, IsMarking, Marks, IsAcross, IsJoinedTo, RowGains, AreEmpty, HoldMarks}
+use Rattle.interval_label.specs.Known.{Rows, IsListed, IsMarking, Marks, IsAcross, IsJoinedTo, RowGains, AreEmpty}
 use Rattle.interval_label.specs.State.{most_places}
 use Rattle.interval_label.specs.declared.marking.Mark.{Mark}
 use Rattle.interval_label.specs.declared.marking.Marking.{Marking}
-use Rattle.interval_label.proofs.Lists.{get_kept, get_last, last_cases}
+use Rattle.interval_label.proofs.Lists.{get_kept, last_cases}
 use Rattle.interval_label.proofs.Members.{none_in, contains_first, contains_cons}
 use Rattle.interval_label.proofs.RowsOf.{gained_has, gained_keeps, gained_only}
 use Rattle.interval_label.proofs.Sliding.{at}

@@ -1,4 +1,4 @@
-use Rattle.std.proofs.Common.{◌≡◌, ◌≢◌, ◌⊎◌, inl, inr, ℕ, zero, suc, ◌+◌, ◌<◌, ◌≤◌, ℤ, ◌≤ℤ◌, ◌<ℤ◌, sym, refl, ap, ◌∙◌, subst, List, [], ◌∷◌, Contains, arith, ⊎_elim}
+use Rattle.std.proofs.Common.{◌≡◌, ◌≢◌, ◌⊎◌, inl, inr, zero, suc, ℤ, sym, refl, ap, subst, List, [], ◌∷◌, Contains, arith, ⊎_elim}
 use Rattle.interval_label.specs.declared.marking.Mark.{Mark}
 use Rattle.interval_label.proofs.Strips.{cases_z}
 

@@ -1,23 +1,22 @@
-use Rattle.std.proofs.Common.{◌≡◌, ◌⊎◌, inl, inr, ℕ, zero, suc, ◌+◌, ◌*◌, ◌^◌, ◌<◌, ◌≤◌, ℤ, ◌≤ℤ◌, sym, refl, ap, ◌∙◌, subst, List, [], ◌∷◌, ◌++◌, length, Option, Some, None, MatchOption, slice_get, Contains, All, arith, ⊎_elim}
-use Rattle.std.proofs.lemmas.Option.{same_Some, slice_get_within, get_or_from_slice_get}
+use Rattle.std.proofs.Common.{◌≡◌, inl, inr, ℕ, ◌+◌, ◌*◌, ◌^◌, ◌<◌, ◌≤◌, sym, refl, ap, ◌∙◌, subst, List, [], ◌∷◌, ◌++◌, length, Option, Some, None, MatchOption, slice_get, Contains, All, arith, ⊎_elim}
+use Rattle.std.proofs.lemmas.Option.{slice_get_within, get_or_from_slice_get}
 use Rattle.std.proofs.lemmas.List.Elements.{All-contains}
 use Rattle.label_arena.specs.declared.place.Place.{Place}
 use Rattle.label_arena.specs.declared.place.Label.{Label}
 use Rattle.label_arena.specs.declared.place.LabelNo.{LabelNo}
 use Rattle.label_arena.specs.Lists.{Graph}
-use Rattle.label_arena.specs.Plain.{gap, factor_at, slide, IsInside, IsPointWay, IsRunWay, Reaches}
-use Rattle.label_arena.specs.Traces.{IsTraced, IsFrom, IsSource}
+use Rattle.label_arena.specs.Plain.{factor_at, slide, Reaches}
+use Rattle.label_arena.specs.Traces.{IsFrom, IsSource}
 use Rattle.interval_label.specs.Task.{Stop, AreNear}
 use Rattle.interval_label.specs.Answers.{AreApart}
 use Rattle.interval_label.specs.Known.{Rows}
 use Rattle.interval_label.specs.Queue.{Queued, IsWithOneMore, IsWaiting, Gains, Loses}
-use Rattle.interval_label.specs.Search.{IsExplained, ExplainedIn, AreSettled, IsCrossing, IsCrossed, IsSlideTo, IsReached, IsImproved, Spreads, IsBeyond}
-use Rattle.interval_label.specs.State.{IsCovered, IsLabel, IsState, IsSpread, IsSound, IsTask, IsOffer, IsBestOf, IsRunning, Puts}
+use Rattle.interval_label.specs.Search.{IsExplained, ExplainedIn, AreSettled, IsCrossed, IsSlideTo, IsReached, IsImproved}
+use Rattle.interval_label.specs.State.{IsCovered, IsLabel, IsState, IsSpread, IsTask, IsOffer, IsBestOf, IsRunning, Puts}
 use Rattle.interval_label.specs.declared.search.Search.{Search}
 use Rattle.interval_label.specs.declared.search.Best.{Best}
 use Rattle.interval_label.proofs.Lists.{get_kept, get_last, last_cases, length_more}
 use Rattle.interval_label.proofs.Gaps.{gap_same}
-use Rattle.interval_label.proofs.Queues.{waiting_kept}
 use Rattle.interval_label.proofs.Reaching.{reaches_slid}
 use Rattle.interval_label.proofs.Crossing.{crossed_label, key_crossed, bound_slid}
 

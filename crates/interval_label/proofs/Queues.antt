@@ -1,4 +1,4 @@
-use Rattle.std.proofs.Common.{◌≡◌, ◌⊎◌, inl, inr, ℕ, ◌+◌, ◌≤◌, sym, refl, ap, ◌∙◌, subst, List, [], ◌∷◌, Contains, IsPermutation, arith, ⊎_elim}
+use Rattle.std.proofs.Common.{◌≡◌, inl, inr, ℕ, sym, subst, ◌∷◌, Contains, IsPermutation, ⊎_elim}
 use Rattle.std.proofs.lemmas.List.Sorted.{Contains-permutation, IsPermutation-sym}
 use Rattle.label_arena.specs.declared.place.Place.{Place}
 use Rattle.label_arena.specs.declared.place.Label.{Label}

@@ -1,8 +1,7 @@
-use Rattle.std.proofs.Common.{◌≡◌, ◌⊎◌, inl, inr, ℕ, zero, suc, ◌+◌, add-zero, ◌*◌, ◌<◌, ◌≤◌, ℤ, ◌≤ℤ◌, sym, refl, ap, ◌∙◌, subst, List, [], ◌∷◌, Some, slice_get, Contains, arith, ⊎_elim}
-use Rattle.std.proofs.lemmas.Option.{same_Some}
+use Rattle.std.proofs.Common.{◌≡◌, inl, ℕ, ◌+◌, add-zero, refl, List, [], ◌∷◌, Contains, arith}
 use Rattle.label_arena.specs.declared.place.Place.{Place}
 use Rattle.label_arena.specs.Lists.{Graph}
-use Rattle.label_arena.specs.Plain.{slide, IsInside, IsNext, IsStep, IsPointWay, IsRunWay, Reaches}
+use Rattle.label_arena.specs.Plain.{slide, IsInside, IsStep, Reaches}
 use Rattle.interval_label.specs.Task.{Stop}
 use Rattle.interval_label.proofs.Sliding.{slid}
 

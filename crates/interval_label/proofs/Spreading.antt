@@ -1,4 +1,4 @@
-use Rattle.std.proofs.Common.{◌≡◌, ◌⊎◌, inl, inr, ℕ, ◌+◌, ◌*◌, ◌^◌, ◌<◌, ◌≤◌, ℤ, ◌≤ℤ◌, ◌<ℤ◌, sym, refl, ap, ◌∙◌, subst, List, Option, Some, None, slice_get, slice_index_or, Contains, length, arith, ⊎_elim}
+use Rattle.std.proofs.Common.{◌≡◌, ◌⊎◌, inl, inr, ℕ, ◌+◌, ◌^◌, ◌<◌, ◌≤◌, ℤ, ◌≤ℤ◌, ◌<ℤ◌, sym, refl, ap, ◌∙◌, subst, List, Option, Some, None, slice_get, slice_index_or, Contains, length, arith, ⊎_elim}
 use Rattle.std.proofs.lemmas.Int.{ints}
 use Rattle.std.proofs.lemmas.Option.{same_Some, slice_get_read, slice_get_within, slice_get-get_or}
 use Rattle.std.proofs.lemmas.Bool.{cases_lt}
@@ -12,12 +12,11 @@ use Rattle.label_arena.specs.declared.place.By.{By}
 use Rattle.label_arena.specs.declared.place.By.TheVariants.{Source, Slide, Point, Run as OverRun}
 use Rattle.label_arena.specs.Lists.{Graph}
 use Rattle.label_arena.specs.Plain.{slide, factor_at, IsInside, IsPointWay, IsRunWay, IsJoined, IsRun}
-use Rattle.label_arena.specs.Marks.{IsRunEnd}
 use Rattle.label_arena.specs.Ways.{AreExactly, IsBridgeOf, IsRunOf}
 use Rattle.interval_label.specs.Task.{IsPriced}
 use Rattle.interval_label.specs.Known.{Rows, IsKnown, row_at}
 use Rattle.interval_label.specs.Queue.{Queued, IsWaiting}
-use Rattle.interval_label.specs.Search.{IsField, WayBy, LeadsToMark, CanCross, CanSpread, Grows, IsCrossed, CoversPoint, IsCrossing, IsRunFrom, Climbs, ClimbsAt, CoversFrom, CoversRun, clamped}
+use Rattle.interval_label.specs.Search.{WayBy, CanCross, CanSpread, Grows, IsCrossed, CoversPoint, IsRunFrom, Climbs, ClimbsAt, CoversFrom, CoversRun, clamped}
 use Rattle.interval_label.specs.declared.marking.Mark.{Mark}
 use Rattle.interval_label.specs.declared.search.Search.{Search}
 use Rattle.interval_label.proofs.Sliding.{at}

@@ -1,8 +1,8 @@
-use Rattle.std.proofs.Common.{◌≡◌, ◌⊎◌, inl, inr, ℕ, zero, suc, ℤ, ◌≤ℤ◌, sym, refl, ap, subst, List, Contains, ⊎_elim}
+use Rattle.std.proofs.Common.{◌≡◌, ◌⊎◌, inl, inr, ℕ, zero, suc, ℤ, sym, subst, List, Contains, ⊎_elim}
 use Rattle.label_arena.specs.declared.place.Place.{Place}
 use Rattle.label_arena.specs.Lists.{Graph}
-use Rattle.label_arena.specs.Plain.{IsInside, IsIn, IsPointWay, IsRunWay, IsJoined, IsBridge, IsRun}
-use Rattle.label_arena.specs.Marks.{IsMark, IsMarkBy, IsStop, IsBridgeEnd, IsRunEnd}
+use Rattle.label_arena.specs.Plain.{IsInside, IsPointWay, IsRunWay, IsJoined, IsRun}
+use Rattle.label_arena.specs.Marks.{IsMark, IsMarkBy, IsBridgeEnd}
 use Rattle.label_arena.specs.declared.place.IntervalNo.{IntervalNo}
 use Rattle.interval_label.specs.Task.{Stop, AreStops}
 

@@ -1,14 +1,12 @@
-use Rattle.std.proofs.Common.{◌≡◌, ◌⊎◌, inl, inr, ℕ, ◌+◌, ◌^◌, ◌<◌, ◌≤◌, sym, refl, ap, ◌∙◌, subst, List, [], ◌∷◌, length, Option, Some, None, slice_get, Contains, arith, ⊎_elim}
+use Rattle.std.proofs.Common.{◌≡◌, inr, ℕ, ◌+◌, ◌^◌, ◌<◌, sym, refl, ap, ◌∙◌, subst, List, [], length, Option, Some, None, slice_get, Contains, arith}
 use Rattle.std.proofs.lemmas.Option.{slice_get_within, slice_get_read}
 use Rattle.label_arena.specs.declared.place.Place.{Place}
 use Rattle.label_arena.specs.declared.place.Label.{Label}
-use Rattle.label_arena.specs.declared.place.By.{By}
 use Rattle.label_arena.specs.declared.place.By.TheVariants.{Source}
 use Rattle.label_arena.specs.Lists.{Graph}
 use Rattle.label_arena.specs.Plain.{IsInside}
 use Rattle.interval_label.specs.Task.{Stop}
 use Rattle.interval_label.specs.Known.{Rows}
-use Rattle.interval_label.specs.Queue.{Queued}
 use Rattle.interval_label.specs.State.{IsLabel, IsTask, IsRunning, Begins, source_label}
 use Rattle.interval_label.specs.declared.search.Search.{Search}
 use Rattle.interval_label.specs.declared.search.Best.{Best}

@@ -1,4 +1,4 @@
-use Rattle.std.proofs.Common.{◌≡◌, ◌⊎◌, inl, inr, ℕ, zero, suc, ◌+◌, ◌-◌, ◌*◌, ◌^◌, ◌<◌, ◌≤◌, sym, refl, ap, ◌∙◌, subst, List, [], ◌∷◌, ◌++◌, length, map, Option, Some, None, slice_get, Contains, All, arith, ⊎_elim}
+use Rattle.std.proofs.Common.{◌≡◌, ℕ, zero, suc, ◌+◌, ◌-◌, ◌^◌, ◌<◌, ◌≤◌, sym, refl, ap, ◌∙◌, subst, List, [], ◌∷◌, ◌++◌, length, map, Option, Some, None, slice_get, arith}
 use Rattle.std.proofs.lemmas.Option.{same_Some, slice_get_within}
 use Rattle.label_arena.specs.declared.place.Place.{Place}
 use Rattle.label_arena.specs.declared.place.Label.{Label}
@@ -11,7 +11,7 @@ use Rattle.interval_label.specs.Task.{Stop, left_at, IsPriced, IsBounded, AreSto
 use Rattle.interval_label.specs.Answers.{AreApart}
 use Rattle.interval_label.specs.Known.{Rows, KnowsMarks, HoldStops, IsWide}
 use Rattle.interval_label.specs.Queue.{Queued, AreInside, Gains}
-use Rattle.interval_label.specs.Search.{IsField, AreSettled, CanSpread, Takes, Ends, IsExplained, IsCrossed, Grows, Spreads, IsImproved}
+use Rattle.interval_label.specs.Search.{IsField, AreSettled, CanSpread, Takes, Ends, IsCrossed, Grows, Spreads, IsImproved}
 use Rattle.interval_label.specs.State.{IsTask, IsLabel, IsRunning, IsFinished, Puts, most_places}
 use Rattle.interval_label.specs.declared.search.Search.{Search}
 use Rattle.interval_label.specs.declared.search.Best.{Best}

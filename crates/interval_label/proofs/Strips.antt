@@ -1,10 +1,9 @@
-use Rattle.std.proofs.Common.{◌≡◌, ◌≢◌, ◌⊎◌, inl, inr, ℕ, ◌+◌, add-zero, ◌*◌, ◌<◌, ◌≤◌, ℤ, ◌≤ℤ◌, ◌<ℤ◌, sym, refl, ap, ◌∙◌, subst, List, [], ◌∷◌, Some, slice_get, Contains, arith, ⊎_elim}
+use Rattle.std.proofs.Common.{◌≡◌, ◌≢◌, ◌⊎◌, inl, inr, ℕ, ◌+◌, add-zero, ◌*◌, ◌<◌, ◌≤◌, ℤ, ◌≤ℤ◌, ◌<ℤ◌, sym, refl, ap, subst, List, [], ◌∷◌, Contains, arith, ⊎_elim}
 use Rattle.std.proofs.lemmas.Int.{ints}
 use Rattle.std.proofs.lemmas.Bool.{cases_lt}
-use Rattle.std.proofs.Math.Nat.{mul-le-mul_left, mul-le-mul_right}
+use Rattle.std.proofs.Math.Nat.{mul-le-mul_right}
 use Rattle.label_arena.specs.declared.place.Place.{Place}
 use Rattle.label_arena.specs.declared.place.IntervalNo.{IntervalNo}
-use Rattle.label_arena.specs.declared.place.Run.{Run}
 use Rattle.label_arena.specs.Lists.{Graph}
 use Rattle.label_arena.specs.Plain.{gap, factor_at, slide, IsInside, IsRunWay, IsPointWay, IsStep, Moves, IsWalk, end_of, cost_of, Reaches}
 use Rattle.interval_label.specs.Task.{Stop}

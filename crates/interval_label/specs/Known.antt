@@ -1,9 +1,9 @@
 -- The marks that a search knows, and the targets by their intervals.
-use Rattle.std.specs.Prelude.{◌≡◌, ◌⊎◌, ℕ, ◌<◌, ℤ, ◌≤ℤ◌, Option, MatchOption, None, Some, List, [], ◌∷◌, ◌++◌, slice_get, unwrap_or, Contains, length}
+use Rattle.std.specs.Prelude.{◌≡◌, ◌⊎◌, ℕ, ◌<◌, ℤ, ◌≤ℤ◌, Option, MatchOption, Some, List, [], ◌∷◌, ◌++◌, slice_get, unwrap_or, Contains, length}
 use Rattle.label_arena.specs.declared.place.Place.{Place}
 use Rattle.label_arena.specs.declared.place.Run.{Run}
 use Rattle.label_arena.specs.Lists.{Graph}
-use Rattle.label_arena.specs.Plain.{factor_at, IsInside, IsRunWay}
+use Rattle.label_arena.specs.Plain.{factor_at, IsInside}
 use Rattle.label_arena.specs.Marks.{IsMark}
 use Rattle.label_arena.specs.Ways.{IsRunOf}
 use Rattle.interval_label.specs.Task.{Stop}

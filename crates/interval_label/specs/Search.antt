@@ -1,5 +1,5 @@
 -- What the steps of a search do.
-use Rattle.std.specs.Prelude.{◌≡◌, ◌⊎◌, ℕ, ◌+◌, ◌*◌, ◌≤◌, ◌<◌, ◌^◌, ℤ, ◌≤ℤ◌, Option, None, Some, List, slice_get, Contains, length, All}
+use Rattle.std.specs.Prelude.{◌≡◌, ◌⊎◌, ℕ, ◌+◌, ◌≤◌, ◌<◌, ◌^◌, ℤ, ◌≤ℤ◌, Option, Some, List, slice_get, Contains, All}
 use Rattle.std.specs.Int.{int_min, int_max}
 use Rattle.label_arena.specs.declared.place.Place.{Place}
 use Rattle.label_arena.specs.declared.place.Label.{Label}

@@ -1,5 +1,5 @@
 -- What holds between two steps of a search.
-use Rattle.std.specs.Prelude.{◌≡◌, ◌⊎◌, ℕ, ◌+◌, ◌*◌, ◌-◌, ◌≤◌, ◌<◌, ◌^◌, Option, None, Some, List, slice_get, Contains, length, sum_by}
+use Rattle.std.specs.Prelude.{◌≡◌, ◌⊎◌, ℕ, ◌+◌, ◌*◌, ◌≤◌, ◌<◌, Option, None, Some, List, slice_get, Contains, length, sum_by}
 use Rattle.label_arena.specs.declared.place.Place.{Place}
 use Rattle.label_arena.specs.declared.place.Interval.{Interval}
 use Rattle.label_arena.specs.declared.place.Label.{Label}

@@ -1,5 +1,5 @@
 -- What is asked of a search, and of the arena and the bound that it is given.
-use Rattle.std.specs.Prelude.{◌≡◌, ℕ, ◌+◌, ◌*◌, ◌≤◌, ◌<◌, ◌^◌, List, slice_get, Some, Contains}
+use Rattle.std.specs.Prelude.{◌≡◌, ℕ, ◌*◌, ◌≤◌, ◌<◌, ◌^◌, List, slice_get, Some, Contains}
 use Rattle.future_cost.specs.declared.bound.Bound.{Bound}
 use Rattle.future_cost.specs.Under.{under}
 use Rattle.label_arena.specs.declared.place.Place.{Place}

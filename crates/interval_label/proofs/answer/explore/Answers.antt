@@ -1,4 +1,4 @@
-use Rattle.std.proofs.Common.{◌≡◌, ◌+◌, ℕ, ◌∙◌, sym, refl, ap, subst, List, [], ◌∷◌, ◌++◌, length, arith}
+use Rattle.std.proofs.Common.{◌∙◌, sym, refl, ap, subst, List, length, arith}
 use Rattle.label_arena.specs.declared.place.Label.{Label}
 use Rattle.label_arena.specs.Lists.{Graph}
 use Rattle.interval_label.specs.Task.{left_at, IsPriced, AreStops}

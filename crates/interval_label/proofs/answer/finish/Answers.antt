@@ -1,10 +1,7 @@
-use Rattle.std.proofs.Common.{◌≡◌, ◌+◌, ◌≤◌, ◌<◌, ◌^◌, ℕ, sym, refl, ap, ◌∙◌, subst, List, [], ◌∷◌, ◌++◌, Some, length, arith}
+use Rattle.std.proofs.Common.{◌+◌, sym, refl, ap, subst, List, Some, length, arith}
 use Rattle.std.proofs.lemmas.Option.{slice_get_within}
-use Rattle.label_arena.specs.declared.place.Place.{Place}
 use Rattle.label_arena.specs.declared.place.Label.{Label}
 use Rattle.label_arena.specs.declared.place.By.TheVariants.{Slide}
-use Rattle.label_arena.specs.Plain.{IsLeast}
-use Rattle.label_arena.specs.Marks.{IsMark}
 use Rattle.interval_label.specs.Task.{left_at}
 use Rattle.interval_label.specs.Answers.{IsFound, AreLeast, ExplainsMarks, AreBelow}
 use Rattle.interval_label.specs.declared.answer.Reached.TheVariants.{Cost}

@@ -1,5 +1,4 @@
-use Rattle.std.proofs.Common.{◌≡◌, ◌+◌, ◌∙◌, ℕ, sym, ap, subst, List, [], length, Result, Ok, Err, OnOk, IfOk, arith}
-use Rattle.label_arena.specs.declared.place.Label.{Label}
+use Rattle.std.proofs.Common.{◌≡◌, ◌+◌, ◌∙◌, sym, subst, length, Result, Ok, Err, OnOk, IfOk, arith}
 use Rattle.label_arena.specs.Lists.{Graph}
 use Rattle.interval_label.specs.Task.{left_at, AreStops}
 use Rattle.interval_label.specs.Answers.{IsAnswer, AreLeast, ExplainsMarks, AreBelow}

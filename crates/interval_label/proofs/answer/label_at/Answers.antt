@@ -1,4 +1,3 @@
-use Rattle.std.proofs.Common.{length}
 use Rattle.std.proofs.lemmas.Option.{slice_get_within}
 use Rattle.interval_label.proofs.Finding.{none_below}
 use Rattle.interval_label.proofs.answer.label_at.Goals as goal

@@ -1,7 +1,7 @@
-use Rattle.std.proofs.Common.{◌≡◌, ◌∙◌, sym, refl, ap, subst, List, length}
+use Rattle.std.proofs.Common.{◌∙◌, sym, refl, subst, length}
 use Rattle.label_arena.specs.Lists.{Graph}
 use Rattle.label_arena.specs.Plain.{IsInside}
-use Rattle.interval_label.specs.Task.{left_at, IsPriced, AreStops}
+use Rattle.interval_label.specs.Task.{IsPriced, AreStops}
 use Rattle.interval_label.specs.Known.{HoldStops, IsWide}
 use Rattle.interval_label.proofs.Stepping.{puts_from, field_at, spread_at}
 use Rattle.interval_label.proofs.answer.put.Goals as goal

@@ -1,4 +1,4 @@
-use Rattle.std.proofs.Common.{◌≡◌, ◌<◌, ℕ, Contains, List, length, slice_index_or, subst, arith}
+use Rattle.std.proofs.Common.{ℕ, Contains, List, slice_index_or, subst, arith}
 use Rattle.std.proofs.lemmas.List.Elements.{Contains-get_or}
 use Rattle.interval_label.proofs.Costs.{inside_number}
 use Rattle.interval_label.proofs.Improving.{improved_none, improved_more, improved_all}

@@ -1,9 +1,9 @@
-use Rattle.std.proofs.Common.{◌≡◌, ◌⊎◌, inl, inr, ◌<◌, ◌≤◌, ◌+◌, ◌-◌, ℕ, List, [], length, Some, slice_get, Contains, refl, sym, ap, ◌∙◌, subst, arith, ⊎_elim}
+use Rattle.std.proofs.Common.{◌≡◌, inl, inr, ◌<◌, ◌≤◌, ◌+◌, List, length, Some, slice_get, Contains, refl, sym, ap, ◌∙◌, subst, arith, ⊎_elim}
 use Rattle.std.proofs.lemmas.Bool.{cases_lt}
 use Rattle.std.proofs.lemmas.Option.{same_Some, slice_get_read}
 use Rattle.label_arena.specs.declared.place.Place.{Place}
 use Rattle.label_arena.specs.Marks.{IsStop, IsBridgeEnd, IsRunEnd}
-use Rattle.interval_label.specs.Known.{IsJoinedTo, IsListed}
+use Rattle.interval_label.specs.Known.{IsJoinedTo}
 use Rattle.interval_label.specs.State.{most_places}
 use Rattle.interval_label.proofs.Members.{none_in}
 use Rattle.interval_label.proofs.MarkList.{marks_kept, at_index, contains_index, joined_mark, all_marks, first_marks, few_marks, before}

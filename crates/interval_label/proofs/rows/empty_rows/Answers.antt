@@ -1,4 +1,4 @@
-use Rattle.std.proofs.Common.{◌≡◌, ℕ, List, ◌∷◌, length, slice_index_or, ap, ◌∙◌, subst, refl, arith}
+use Rattle.std.proofs.Common.{◌≡◌, ℕ, List, length, slice_index_or, ap, subst, arith}
 use Rattle.interval_label.specs.Known.{AreEmpty}
 use Rattle.interval_label.proofs.RowsOf.{empty_none, empty_more}
 use Rattle.interval_label.proofs.rows.empty_rows.Goals as goal

@@ -1,4 +1,4 @@
-use Rattle.std.proofs.Common.{◌≡◌, ◌<◌, ◌+◌, ◌^◌, ◌≤◌, ap, ◌∙◌, arith}
+use Rattle.std.proofs.Common.{arith}
 use Rattle.interval_label.proofs.Explaining.{not_explained_by, none_explained_by, on_label, on_within}
 use Rattle.interval_label.proofs.search.explained_by.Goals as goal
 

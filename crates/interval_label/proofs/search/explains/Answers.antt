@@ -1,4 +1,4 @@
-use Rattle.std.proofs.Common.{◌⊎◌, ⊎_elim}
+use Rattle.std.proofs.Common.{⊎_elim}
 use Rattle.interval_label.specs.Search.{IsExplainedBy}
 use Rattle.interval_label.proofs.Explaining.{explained_near, on_below, on_above}
 use Rattle.interval_label.proofs.search.explains.Goals as goal

@@ -1,5 +1,5 @@
-use Rattle.std.proofs.Common.{◌≡◌, ◌<◌, ◌*◌, ◌^◌, ap, ◌∙◌, arith}
-use Rattle.label_arena.specs.Plain.{slide, gap}
+use Rattle.std.proofs.Common.{◌≡◌, ◌*◌, ap, ◌∙◌, arith}
+use Rattle.label_arena.specs.Plain.{slide}
 use Rattle.interval_label.proofs.Costs.{slide_read, slide_small}
 use Rattle.interval_label.proofs.slide.along.Goals as goal
 

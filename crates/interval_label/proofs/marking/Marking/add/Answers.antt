@@ -1,5 +1,5 @@
-use Rattle.std.proofs.Common.{◌≡◌, sym, List, Contains, length, subst, arith}
-use Rattle.interval_label.specs.Known.{RowGains, IsListed}
+use Rattle.std.proofs.Common.{◌≡◌, sym, List, Contains, subst, arith}
+use Rattle.interval_label.specs.Known.{RowGains}
 use Rattle.interval_label.specs.declared.marking.Mark.{Mark}
 use Rattle.interval_label.proofs.Costs.{inside_number}
 use Rattle.interval_label.proofs.MarkList.{marks_same, marks_added, has_added}

@@ -1,11 +1,10 @@
-use Rattle.std.proofs.Common.{◌≡◌, ◌<◌, ℕ, length, Some, slice_get, slice_index_or, Contains, arith}
+use Rattle.std.proofs.Common.{◌<◌, ℕ, length, slice_index_or, Contains, arith}
 use Rattle.std.proofs.lemmas.List.Elements.{Contains-get_or}
 use Rattle.label_arena.specs.declared.place.Place.{Place}
 use Rattle.label_arena.specs.Ways.{IsRunOf}
 use Rattle.interval_label.specs.Known.{IsAcross, IsJoinedTo}
 use Rattle.interval_label.proofs.MarkList.{marks_same, marks_more, marks_kept, at_index}
 use Rattle.interval_label.proofs.Spreading.{more_of, run_within}
-use Rattle.interval_label.proofs.Costs.{inside_number}
 use Rattle.interval_label.proofs.marking.Marking.follow.Goals as goal
 
 pub runs-init : goal.runs-init

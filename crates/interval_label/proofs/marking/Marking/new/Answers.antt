@@ -1,4 +1,4 @@
-use Rattle.std.proofs.Common.{◌≡◌, sym, List, subst}
+use Rattle.std.proofs.Common.{sym, List, subst}
 use Rattle.label_arena.specs.declared.place.Place.{Place}
 use Rattle.interval_label.specs.Known.{IsMarking}
 use Rattle.interval_label.proofs.MarkList.{marking_new}

@@ -1,10 +1,9 @@
-use Rattle.std.proofs.Common.{◌≡◌, ◌⊎◌, ◌<◌, ◌≤◌, ℕ, pos, ap, sym, refl, ◌∙◌, subst, length, List, slice_index_or, Some, slice_get, Contains, arith, ⊎_elim}
+use Rattle.std.proofs.Common.{◌≡◌, ◌<◌, ◌≤◌, pos, ap, sym, ◌∙◌, subst, length, List, slice_index_or, Some, slice_get, Contains, arith, ⊎_elim}
 use Rattle.std.proofs.lemmas.Bool.{cases_lt}
 use Rattle.std.proofs.lemmas.Option.{slice_get_within, slice_get-get_or, same_Some}
 use Rattle.std.proofs.lemmas.List.Elements.{Contains-get_or}
 use Rattle.label_arena.specs.Plain.{factor_at}
 use Rattle.interval_label.specs.Task.{left_at}
-use Rattle.interval_label.specs.Known.{Rows, row_at}
 use Rattle.interval_label.specs.Search.{ClimbsAt}
 use Rattle.interval_label.specs.declared.marking.Mark.{Mark}
 use Rattle.interval_label.proofs.Costs.{factor_read}

@@ -1,10 +1,7 @@
-use Rattle.std.proofs.Common.{◌≡◌, ◌<◌, ◌+◌, ℕ, ◌≤ℤ◌, Some, slice_get}
-use Rattle.label_arena.specs.Plain.{slide}
+use Rattle.std.proofs.Common.{◌≡◌, ◌<◌, ℕ, Some, slice_get}
 use Rattle.interval_label.specs.Task.{left_at}
-use Rattle.interval_label.specs.Queue.{IsWaiting}
 use Rattle.interval_label.specs.Search.{Grows, ClimbsAt}
 use Rattle.interval_label.specs.declared.marking.Mark.{Mark}
-use Rattle.interval_label.proofs.Sliding.{at}
 use Rattle.interval_label.proofs.search.Search.climb.Given as goal
 
 abbrev pub invariant-marks : goal.invariant-marks

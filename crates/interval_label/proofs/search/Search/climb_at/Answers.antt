@@ -1,4 +1,4 @@
-use Rattle.std.proofs.Common.{◌≡◌, ap, sym, refl, ◌∙◌, subst, ℤ, ◌≤ℤ◌}
+use Rattle.std.proofs.Common.{ap, sym, subst, ℤ, ◌≤ℤ◌}
 use Rattle.label_arena.specs.declared.place.Place.{Place}
 use Rattle.interval_label.specs.Task.{left_at}
 use Rattle.interval_label.proofs.Spreading.{can_mark, mark_covered, grows_none}

@@ -1,4 +1,4 @@
-use Rattle.std.proofs.Common.{◌≡◌, ◌<◌, ◌+◌, ◌^◌, ◌≤◌, ℕ, ap, refl, arith}
+use Rattle.std.proofs.Common.{◌≡◌, ◌+◌, ap, refl, arith}
 use Rattle.label_arena.specs.declared.place.IntervalNo.{IntervalNo}
 use Rattle.label_arena.specs.Plain.{slide}
 use Rattle.interval_label.specs.Task.{left_at}

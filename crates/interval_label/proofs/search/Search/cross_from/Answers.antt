@@ -1,4 +1,4 @@
-use Rattle.std.proofs.Common.{refl, inl, inr, ap, ℤ, ◌≤ℤ◌, arith}
+use Rattle.std.proofs.Common.{arith}
 use Rattle.std.proofs.lemmas.Int.{ints}
 use Rattle.interval_label.specs.Task.{left_at}
 use Rattle.interval_label.proofs.Queues.{waiting_kept}

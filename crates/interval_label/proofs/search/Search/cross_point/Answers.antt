@@ -1,4 +1,3 @@
-use Rattle.std.proofs.Common.{refl}
 use Rattle.interval_label.specs.Task.{left_at}
 use Rattle.interval_label.proofs.Queues.{waiting_kept}
 use Rattle.interval_label.proofs.Spreading.{can_point, can_point_back, covers_point, grows_more, spread_more}

@@ -1,4 +1,4 @@
-use Rattle.std.proofs.Common.{◌≡◌, ◌<◌, ℕ, Contains, Some, slice_get}
+use Rattle.std.proofs.Common.{◌≡◌, ◌<◌, ℕ, Some, slice_get}
 use Rattle.interval_label.specs.Task.{left_at}
 use Rattle.interval_label.specs.Search.{Grows, CoversPoint, CoversRun}
 use Rattle.interval_label.proofs.search.Search.spread.Given as goal

@@ -1,4 +1,4 @@
-use Rattle.std.proofs.Common.{◌≡◌, ◌+◌, ℕ, refl, subst}
+use Rattle.std.proofs.Common.{◌+◌, ℕ, refl, subst}
 use Rattle.interval_label.specs.Queue.{IsWithOneMore}
 use Rattle.interval_label.proofs.Queues.{more_from_push}
 use Rattle.interval_label.proofs.search.Search.wait.Goals as goal
