@@ -1,0 +1,8 @@
+//! Bounds that were counted by hand.
+use std::test::Fail;
+
+#[test]
+fn empty(rt: HostRuntime) -> Result<(), Fail> {
+    let _ = rt.alloc();
+    Ok(())
+}
