@@ -15,7 +15,7 @@ use Rattle.label_arena.specs.Lists.{Graph}
 use Rattle.label_arena.specs.Plain.{gap, vertex_on, vertex_of, factor_at, IsNext, IsPointWay, IsRunWay, IsStep, IsConsistent}
 use Rattle.future_cost.specs.declared.bound.Bound.{Bound}
 use Rattle.future_cost.specs.Under.{outside, levels_outside, under, IsHullOf}
-use Rattle.future_cost.specs.Steps.{distance, IsWireStep, IsViaStep, Falls, IsFair, FallsInArenas, IsNear, IsSmall}
+use Rattle.future_cost.specs.Laws.{distance, IsWireStep, IsViaStep, Falls, IsFair, FallsInArenas, IsNear, IsSmall}
 
 outside_falls : (l h y z : ℤ) → outside l h y ≤ unsigned_abs (y -ℤ z) + outside l h z
 outside_falls l h y z = grind (arith, ints)
