@@ -15,7 +15,7 @@ use Rattle.label_arena.specs.Lists.{Graph}
 use Rattle.label_arena.specs.Plain.{gap, vertex_on, vertex_of, factor_at, IsNext, IsPointWay, IsRunWay, IsStep, IsConsistent}
 use Rattle.future_cost.specs.declared.bound.Bound.{Bound}
 use Rattle.future_cost.specs.Under.{outside, levels_outside, under, IsHullOf}
-use Rattle.future_cost.specs.Steps.{distance, IsWireStep, IsViaStep, Falls, IsFair, FallsInArenas, IsNear, IsSmall}
+use Rattle.future_cost.specs.Laws.{distance, IsWireStep, IsViaStep, Falls, IsFair, FallsInArenas, IsNear, IsSmall}
 
 outside_falls : (l h y z : ℤ) → outside l h y ≤ unsigned_abs (y -ℤ z) + outside l h z
 outside_falls l h y z = grind (arith, ints)
@@ -99,25 +99,25 @@ module _ (b : Bound) (g : Graph) (h : IsFair b.via g) where
   point_falls k u v c s =
       let fair = h.bridges k s.bridge s.at in
       ⊎_elim
-        (λ (e : (u ≡ s.bridge.a) × (v ≡ s.bridge.b)). rw (e.0, e.1, s.cost) (bridge_falls (vertex_of g s.bridge.a) (vertex_of g s.bridge.b) s.bridge.cost fair))
-        (λ (e : (u ≡ s.bridge.b) × (v ≡ s.bridge.a)). rw (e.0, e.1, s.cost) (bridge_turned (vertex_of g s.bridge.a) (vertex_of g s.bridge.b) s.bridge.cost fair))
-        s.ends
+      (λ (e : (u ≡ s.bridge.a) × (v ≡ s.bridge.b)). rw (e.0, e.1, s.cost) (bridge_falls (vertex_of g s.bridge.a) (vertex_of g s.bridge.b) s.bridge.cost fair))
+      (λ (e : (u ≡ s.bridge.b) × (v ≡ s.bridge.a)). rw (e.0, e.1, s.cost) (bridge_turned (vertex_of g s.bridge.a) (vertex_of g s.bridge.b) s.bridge.cost fair))
+      s.ends
 
   run_falls : (k : ℕ) (u v : Place) (c : ℕ) → IsRunWay g k u v c → under b (vertex_of g u) ≤ c + under b (vertex_of g v)
   run_falls k u v c s =
       let r = h.joined.runs k s.run s.at in
       let far : unsigned_abs (r.a.line -ℤ r.b.line) ≤ c = omega (arith, h.runs k s.run r.a r.b s.at r.a_at r.b_at, s.cost) in
       ⊎_elim
-        (λ (e : (u.interval ≡ s.run.a) × (v.interval ≡ s.run.b)).
-          let at : slice_get g.intervals u.interval.0 ≡ Some r.a = subst (λ n. slice_get g.intervals n.0 ≡ Some r.a) (sym e.0) r.a_at in
-          let to : slice_get g.intervals v.interval.0 ≡ Some r.b = subst (λ n. slice_get g.intervals n.0 ≡ Some r.b) (sym e.1) r.b_at in
-          rw (vertex_is g u r.a at, vertex_is g v r.b to, ← s.straight) (across_falls b r.a r.b u.coord c r.level r.direction far))
-        (λ (e : (u.interval ≡ s.run.b) × (v.interval ≡ s.run.a)).
-          let at : slice_get g.intervals u.interval.0 ≡ Some r.b = subst (λ n. slice_get g.intervals n.0 ≡ Some r.b) (sym e.0) r.b_at in
-          let to : slice_get g.intervals v.interval.0 ≡ Some r.a = subst (λ n. slice_get g.intervals n.0 ≡ Some r.a) (sym e.1) r.a_at in
-          let back : unsigned_abs (r.b.line -ℤ r.a.line) ≤ c = omega (arith, ints, far) in
-          rw (vertex_is g u r.b at, vertex_is g v r.a to, ← s.straight) (across_falls b r.b r.a u.coord c (sym r.level) (sym r.direction) back))
-        s.ends
+      (λ (e : (u.interval ≡ s.run.a) × (v.interval ≡ s.run.b)).
+      let at : slice_get g.intervals u.interval.0 ≡ Some r.a = subst (λ n. slice_get g.intervals n.0 ≡ Some r.a) (sym e.0) r.a_at in
+      let to : slice_get g.intervals v.interval.0 ≡ Some r.b = subst (λ n. slice_get g.intervals n.0 ≡ Some r.b) (sym e.1) r.b_at in
+      rw (vertex_is g u r.a at, vertex_is g v r.b to, ← s.straight) (across_falls b r.a r.b u.coord c r.level r.direction far))
+      (λ (e : (u.interval ≡ s.run.b) × (v.interval ≡ s.run.a)).
+      let at : slice_get g.intervals u.interval.0 ≡ Some r.b = subst (λ n. slice_get g.intervals n.0 ≡ Some r.b) (sym e.0) r.b_at in
+      let to : slice_get g.intervals v.interval.0 ≡ Some r.a = subst (λ n. slice_get g.intervals n.0 ≡ Some r.a) (sym e.1) r.a_at in
+      let back : unsigned_abs (r.b.line -ℤ r.a.line) ≤ c = omega (arith, ints, far) in
+      rw (vertex_is g u r.b at, vertex_is g v r.a to, ← s.straight) (across_falls b r.b r.a u.coord c (sym r.level) (sym r.direction) back))
+      s.ends
 
   consistent : IsConsistent g (λ p. under b (vertex_of g p))
   consistent u v c (inl s) = next_falls u v c s

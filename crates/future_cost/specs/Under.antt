@@ -4,6 +4,10 @@ use Rattle.std.specs.Int.{int_gap, int_min, int_max}
 use Rattle.rt_base.specs.declared.walk.Vertex.{Vertex}
 use Rattle.future_cost.specs.declared.bound.Bound.{Bound}
 
+-- what contracts see of a bound: the ranges of the targets' x, y and levels, and the cost of a via
+abbrev pub Hull : Type 0
+Hull = Bound
+
 -- how far z lies outside the range from l to h
 abbrev pub outside : ℤ → ℤ → ℤ → ℕ
 outside l h z = int_gap z l + int_gap h z
@@ -13,7 +17,7 @@ abbrev pub levels_outside : ℕ → ℕ → ℕ → ℕ
 levels_outside bottom top n = (bottom - n) + (n - top)
 
 -- the distances in x and y, and a via for each level
-abbrev pub under : Bound → Vertex → ℕ
+abbrev pub under : Hull → Vertex → ℕ
 under b v = outside b.x.lo b.x.hi v.point.x + outside b.y.lo b.y.hi v.point.y + b.via * levels_outside b.bottom b.top v.level
 
 -- the range from l to h is the smallest with this coordinate of each target

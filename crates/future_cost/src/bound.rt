@@ -2,7 +2,7 @@
 ghost use Rattle.std.specs.Prelude.{◌≡◌, ℕ, ◌<◌, ◌≤◌, ◌^◌, length, All, Contains};
 ghost use Rattle.std.specs.Int.{int_gap, int_max, int_min};
 ghost use Rattle.future_cost.specs.Under.{IsHullOf, outside, levels_outside, under, widened};
-ghost use Rattle.future_cost.specs.Steps.{Falls, FallsInArenas, IsNear, IsSmall};
+ghost use Rattle.future_cost.specs.Laws.{Falls, FallsInArenas, IsNear, IsSmall};
 
 use rt_base::{Span, Vertex};
 

@@ -91,6 +91,6 @@ back_whole g ls n at rest corners x t is e whole h =
 pub back_first : (g : Graph) (ls : List Label) (n : ℕ) (corners : List Corner) → n < length ls → corners ≡ [] → IsBack g ls n n (reverse corners)
 back_first g ls n corners l e = subst (λ (xs : List Corner). IsBack g ls n n (reverse xs)) (sym e)
     (⊎_elim
-      (λ (h : (x : Label) × (n < length ls) × (slice_get ls n ≡ Some x) × (slice_index_or ls n x ≡ x)). back_none g ls n h.0 h.2)
-      (λ (h : (length ls ≤ n) × (slice_get ls n ≡ None)). absurd (omega (arith, h.0)))
-      (slice_get_cases ls n).1)
+    (λ (h : (x : Label) × (n < length ls) × (slice_get ls n ≡ Some x) × (slice_index_or ls n x ≡ x)). back_none g ls n h.0 h.2)
+    (λ (h : (length ls ≤ n) × (slice_get ls n ≡ None)). absurd (omega (arith, h.0)))
+    (slice_get_cases ls n).1)

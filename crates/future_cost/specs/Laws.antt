@@ -1,5 +1,5 @@
 -- Steps over which the bound falls by at most the step's cost.
-use Rattle.std.specs.Prelude.{◌≡◌, ◌⊎◌, ℕ, ◌+◌, ◌≤◌, ◌<◌, ◌^◌, ℤ, ◌-ℤ◌, unsigned_abs, List, slice_get, Some, Contains, All}
+use Rattle.std.specs.Prelude.{◌≡◌, ◌⊎◌, ℕ, ◌+◌, ◌≤◌, ◌<◌, ◌^◌, ℤ, ◌-ℤ◌, unsigned_abs, List, slice_get, Some}
 use Rattle.rt_base.specs.declared.walk.Vertex.{Vertex}
 use Rattle.rt_base.specs.Ranges.{IsPointWithin}
 use Rattle.label_arena.specs.declared.place.Place.{Place}
