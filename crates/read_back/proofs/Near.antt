@@ -31,7 +31,7 @@ use Rattle.build.specs.Refusals.{Gives}
 use Rattle.build.specs.Wires.{special_shapes, wired_shapes}
 use Rattle.build.specs.Inputs.{Input}
 use Rattle.build.specs.LookUps.{layer_names_of, metals_of, pin_rects, connected_rects}
-use Rattle.build.proofs.DesignLemmas.{AllZip-second}
+use Rattle.build.proofs.Zips.{AllZip-second}
 use Rattle.build.proofs.FirstFaults.{counted}
 use Rattle.build.proofs.Steps.{rects_named}
 use Rattle.wire_cover.specs.GoodStrokes.{IsNear}

@@ -1,0 +1,9 @@
+pub mod Lists
+pub mod Plain
+pub mod Marks
+pub mod Traces
+pub mod Ways
+pub mod Rows
+pub mod Groups
+pub mod Counting
+pub mod Keeping
