@@ -41,4 +41,4 @@ returns c =
     first_by (level_fault i.def.tracks) (routing_layers i.lef.layers)
     ∷ first_by (guide_fault (layer_names_of i.lef) (net_names i.def.nets)) (unwrap_or i.guides [])
     ∷ []) c.check_limit.result _ (limit_fault RoutingLayers (length (routing_layers i.lef.layers)) 16) c.check_limit.ensures (levels, (guides, tt))
-    (ap (λ (n : ℕ). limit_fault RoutingLayers n 16) (c.routing_count.ensures ∙ ap (λ (ls : List Layer). length (routing_layers ls)) c.as_slice-layers.ensures))
+    (ap (λ (n : ℕ). limit_fault RoutingLayers n 16) (c.routing_count-count.ensures ∙ ap (λ (ls : List Layer). length (routing_layers ls)) c.as_slice-layers.ensures))
