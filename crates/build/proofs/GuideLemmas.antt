@@ -7,6 +7,7 @@ use Rattle.rt_base.proofs.Ranges.{sides-weaker}
 use Rattle.rt_base.specs.Ranges.{AreSidesWithin}
 use Rattle.rt_base.specs.declared.tech.Layer.{Layer}
 use Rattle.guide_text.specs.IsGuides.{Box, Guide, IsBox, IsGuide, AreGuides}
+use Rattle.guide_text.specs.declared.guides.Guides.{Guides}
 use Rattle.net_guides.specs.declared.index.NetGuides.{NetGuides}
 use Rattle.net_guides.specs.Indexes.{IsIndexOf}
 use Rattle.net_guides.specs.NetGuides.{boxes_of, boxes_on, box_among, level_names}
@@ -46,3 +47,8 @@ guide_near i layers name ok = by_guides i.guides ok.are_guides
     by_guides : (gs : Option (List Guide)) → IfSome gs AreGuides → All (λ (b : ℕ × Sides). AreSidesWithin (2 ^ 32) b.1) (guide_of i.def.die layers gs name)
     by_guides None h = All-map (λ (b : ℕ × Sides). AreSidesWithin (2 ^ 32) b.1) (λ (l : ℕ × Layer). (l.0, i.def.die)) (enumerate_from 0 (routing_layers layers)) (λ k d lt. sides-weaker (2 ^ 30) (2 ^ 32) i.def.die (omega arith) ok.is_def.die)
     by_guides (Some gs) h = entry_near layers gs name h.all
+
+-- the guides of a file are those of the input
+pub guides_are : (o : Option Guides) → IfSome o (λ (g : Guides). AreGuides g.nets) → IfSome (option_map (λ (g : Guides). g.nets) o) AreGuides
+guides_are None h = h
+guides_are (Some g) h = h

@@ -98,3 +98,16 @@ alternate_is lef tech ok same level lt =
     ∙ ap (λ (k : ℕ). get_or (directions tech.layers) k false) (omega arith)
     ∙ alternate_at (directions tech.layers) level (subst (λ (ls : List Layer). Alternate (directions ls)) (sym same) ok.directions) (omega (arith, lt, length-levels tech, length-map (routing_layers tech.layers) (λ (l : Layer). l.horizontal)))
     ∙ ap not (sym (horizontal_is tech level))
+
+-- what is said of a via hangs on the layers alone
+pub said_again : (tech : Tech) (vias : List Via) (said via : Via) → IsViaSaid tech said via → IsViaSaid (let t : Tech = record { layers = tech.layers; vias = vias } in t) said via
+said_again tech vias said via h = record {
+  name = h.name;
+  rects = h.rects;
+  usable = (λ u. let p = h.usable.0 u in (p.0, there p.1), λ u. h.usable.1 (u.0, back u.1));
+}
+  where
+    there : IsUsable tech said.rects → IsUsable (let t : Tech = record { layers = tech.layers; vias = vias } in t) said.rects
+    there u = (u.0, record { joins = record { upper_level = u.1.joins.upper_level; lower = u.1.joins.lower; upper = u.1.joins.upper }; cut = u.1.cut; only = u.1.only })
+    back : IsUsable (let t : Tech = record { layers = tech.layers; vias = vias } in t) said.rects → IsUsable tech said.rects
+    back u = (u.0, record { joins = record { upper_level = u.1.joins.upper_level; lower = u.1.joins.lower; upper = u.1.joins.upper }; cut = u.1.cut; only = u.1.only })

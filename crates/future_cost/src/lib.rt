@@ -7,7 +7,5 @@
 #![tactic(auto)]
 
 mod bound;
-#[cfg(test)]
-mod tests;
 
 pub use bound::Bound;

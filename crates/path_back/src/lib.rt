@@ -7,7 +7,5 @@
 #![tactic(auto)]
 
 mod corner;
-#[cfg(test)]
-mod tests;
 
 pub use corner::{Corner, recover};
