@@ -109,5 +109,6 @@ said_again tech vias said via h = record {
   where
     there : IsUsable tech said.rects → IsUsable (let t : Tech = record { layers = tech.layers; vias = vias } in t) said.rects
     there u = (u.0, record { joins = record { upper_level = u.1.joins.upper_level; lower = u.1.joins.lower; upper = u.1.joins.upper }; cut = u.1.cut; only = u.1.only })
+
     back : IsUsable (let t : Tech = record { layers = tech.layers; vias = vias } in t) said.rects → IsUsable tech said.rects
     back u = (u.0, record { joins = record { upper_level = u.1.joins.upper_level; lower = u.1.joins.lower; upper = u.1.joins.upper }; cut = u.1.cut; only = u.1.only })

@@ -19,7 +19,6 @@ use Rattle.track_graph.specs.Edges.{AreNeighbours, IsAlong, IsVia, Joins, FitsKi
 use Rattle.track_graph.specs.Levels.{track_system_of, IsVertex, along, line_of, lines_of, lines_below, positions_of, NoneBetween, vertex_at}
 use Rattle.track_graph.proofs.GraphLemmas.{none_between_left, none_between_right}
 use Rattle.plain_route.specs.Steps.{along_edge, by_via, Keeps, HasNeighbours, HasAbove, HasBelow, HasVia, HasVias}
-
 use Rattle.plain_route.proofs.VertexLemmas.{vertex_is}
 
 pub keeps_push : (old : List Edge) (e : Edge) (new : List Edge) → new ≡ old ++ e ∷ [] → Keeps old new

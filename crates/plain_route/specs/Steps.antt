@@ -8,7 +8,6 @@ use Rattle.rt_base.specs.declared.walk.Vertex.{Vertex}
 use Rattle.track_graph.specs.Edges.{AreNeighbours}
 use Rattle.track_graph.specs.Levels.{along, line_of, vertex_at}
 
-
 -- along the track of v to a position
 abbrev pub along_edge : Tech → Vertex → ℤ → Edge
 along_edge tech v z = record { kind = Along; to = vertex_at tech v.level (line_of tech v.level v.point) (z) }

@@ -24,8 +24,8 @@ pub use levels::{
 };
 pub use lines::{count_below, count_up_to, lines_in, next_above, next_below};
 pub use look_up::{guide_of, net_name, via_layer_name, via_name};
-pub use vias::{is_usable, joins_levels};
 pub use shapes::{edge_shapes, entry_shapes, walk_shapes};
 pub use state::{copy_walk, finished, fold, may_rip};
 pub use stroke_list::{edge_strokes, strokes};
 pub use stubs::{entry_cost, stub_point};
+pub use vias::{is_usable, joins_levels};
