@@ -1,5 +1,5 @@
 -- The routed text, net by net.
-use Rattle.std.proofs.Common.{◌≡◌, ◌∙◌, ℕ, ◌+◌, ◌<◌, ◌≤◌, List, [], ◌∷◌, ◌++◌, false, Option, Some, ap, sym, subst, length, get_or, drop, unwrap_or, append_assoc, All, arith}
+use Rattle.std.proofs.Common.{◌≡◌, ◌∙◌, ℕ, ◌+◌, ◌<◌, ◌≤◌, List, [], ◌∷◌, ◌++◌, false, Option, ap, sym, subst, length, get_or, drop, unwrap_or, append_assoc, All, arith}
 use Rattle.std.specs.Prelude.{flat_map, slice_range}
 use Rattle.std.proofs.lemmas.List.{drop_more, get_or_default}
 use Rattle.std.proofs.lemmas.List.Elements.{All-weaker}

@@ -1,13 +1,8 @@
 -- Journals of the worked examples, byte for byte.
-use Rattle.std.proofs.Common.{◌≡◌, List, [], ◌∷◌, refl}
+use Rattle.std.proofs.Common.{◌≡◌, [], ◌∷◌, refl}
 use Rattle.std.specs.Prelude.{codes}
 use Rattle.std.specs.Fmt.{digits}
-use Rattle.rt_base.specs.declared.walk.EntryKind.TheVariants.{Stub}
-use Rattle.rt_base.specs.declared.walk.Walk.{Walk}
-use Rattle.track_graph.specs.declared.design.Design.{Design}
-use Rattle.track_graph.specs.declared.design.NetKind.TheVariants.{Routable}
-use Rattle.track_graph.specs.declared.history.Block.{Block}
-use Rattle.track_graph.specs.declared.history.Block.TheVariants.{Wire, Stuck, RipFor}
+use Rattle.track_graph.specs.declared.history.Block.TheVariants.{Wire, Stuck}
 use Rattle.track_graph.proofs.Chip.{corner, corner_chip, crossed_blocks, crossed_chip, stubbed}
 use Rattle.journal_text.specs.Lines.{journal_lines}
 

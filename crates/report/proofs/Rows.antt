@@ -1,14 +1,12 @@
 -- Reports of the worked examples, byte for byte.
-use Rattle.std.proofs.Common.{◌≡◌, pos, List, [], ◌∷◌, refl}
+use Rattle.std.proofs.Common.{◌≡◌, List, [], ◌∷◌, refl}
 use Rattle.std.specs.Prelude.{codes}
 use Rattle.std.specs.Fmt.{digits}
-use Rattle.rt_base.specs.declared.walk.EntryKind.TheVariants.{Stub, Wire as OnWire}
 use Rattle.rt_base.specs.declared.walk.Walk.{Walk}
 use Rattle.track_graph.specs.declared.design.Design.{Design}
 use Rattle.track_graph.specs.declared.design.NetKind.TheVariants.{Routable, Prewired, Unguided, Single}
 use Rattle.track_graph.specs.declared.design.Pin.{Pin}
-use Rattle.track_graph.specs.declared.history.Block.{Block}
-use Rattle.track_graph.specs.declared.history.Block.TheVariants.{Wire, Stuck, RipFor}
+use Rattle.track_graph.specs.declared.history.Block.TheVariants.{Wire, Stuck}
 use Rattle.track_graph.proofs.Chip.{along, chip, chip_of, corner, corner_chip, crossed_blocks, crossed_chip, from_pin, net_of, pin_at, stub_pin, stubbed}
 use Rattle.report.specs.Lines.{report_text}
 

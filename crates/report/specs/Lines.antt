@@ -1,10 +1,9 @@
 -- The report: ten counts, and then what was skipped, which nets have no path and which have no guide.
-use Rattle.std.specs.Prelude.{ℕ, ◌+◌, decimal, Bool, true, false, ◌&&◌, not, if◌then◌else◌, List, [], ◌∷◌, ◌++◌, codes, length, filter, flat_map, count_by, sum_by, ◌==◌}
+use Rattle.std.specs.Prelude.{ℕ, ◌+◌, decimal, Bool, true, false, ◌&&◌, not, if◌then◌else◌, List, [], ◌∷◌, ◌++◌, codes, length, flat_map, count_by, sum_by, ◌==◌}
 use Rattle.std.specs.List.{enumerate_from, zip}
 use Rattle.rt_base.specs.declared.walk.Edge.{Edge}
 use Rattle.rt_base.specs.declared.walk.EdgeKind.{EdgeKind}
 use Rattle.rt_base.specs.declared.walk.EdgeKind.TheVariants.{Along, Via as ByVia}
-use Rattle.rt_base.specs.declared.walk.Entry.{Entry}
 use Rattle.rt_base.specs.declared.walk.EntryKind.{EntryKind}
 use Rattle.rt_base.specs.declared.walk.EntryKind.TheVariants.{Pin as AtPin, Stub, Wire as OnWire}
 use Rattle.rt_base.specs.declared.walk.Vertex.{Vertex}
@@ -20,7 +19,7 @@ use Rattle.track_graph.specs.declared.history.State.{State}
 use Rattle.rt_base.specs.Geometry.{distance, nearest_point}
 use Rattle.track_graph.specs.Entries.{rect_of}
 use Rattle.track_graph.specs.Histories.{all_joined}
-use Rattle.track_graph.specs.States.{net_state, state_of}
+use Rattle.track_graph.specs.States.{state_of}
 
 -- the net is to be routed
 abbrev pub is_routable : NetKind → Bool

@@ -147,8 +147,7 @@ status_low d s = at (has_unrouted d s)
 written_again : (asked : CommandLine) (told : Option Files) (text : List ℕ) (d : Design) (blocks : List Block) → (read : IsRead told asked text d) → IsReady text d → IsRouting d blocks → ReadsBack read.designed blocks
 written_again asked told text d blocks read fits routing =
     let designed = read.designed in
-    read_back designed.say.units designed.lef.text designed.lef.tokens (input_from designed.def designed.said designed.guides) (options_of asked designed.said) d blocks
-    designed.lef_cut.cut designed.say.in_units.lef_says designed.def_cut.cut designed.say.def_says
+    read_back (input_from designed.def designed.said designed.guides) (options_of asked designed.said) d blocks designed.def_cut.cut designed.say.def_says
     (record { is_lef = read.readable.lef_fits; is_def = read.readable.def_fits; gives = designed.gives; design = fits.design; ordered = read.ordered; closes = subst (λ x. AreCloses x d.nets) designed.text_is fits.closes; history = routing.finished.history })
 
 -- the texts that were put are those of the journal

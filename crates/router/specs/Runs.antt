@@ -6,6 +6,7 @@ use Rattle.track_graph.specs.declared.design.Net.{Net}
 use Rattle.track_graph.specs.declared.history.Block.{Block}
 use Rattle.track_graph.specs.declared.history.State.{State}
 use Rattle.track_graph.specs.Histories.{IsFinishedHistory}
+use Rattle.track_graph.specs.Orders.{AreTakenInOrder}
 use Rattle.track_graph.specs.States.{state_of}
 use Rattle.ripup.specs.Headline.{IsHeadline}
 use Rattle.def_out.specs.Wiring.{routed_def}
@@ -47,10 +48,11 @@ routed_status d s = if has_unrouted d s then 1 else 0
 abbrev pub routed_text : List ℕ → Design → List Block → List ℕ
 routed_text text d blocks = routed_def text d (state_of d blocks)
 
--- the blocks are a finished history of one thread, and keep what the router promises of each wire and each mark
+-- the blocks are a finished history of one thread, keep what the router promises of each wire and each mark, and first take the nets in their order
 pub record IsRouting (d : Design) (blocks : List Block) : Type 0 where
   pub finished : IsFinishedHistory d blocks
   pub headline : IsHeadline d blocks
+  pub order : AreTakenInOrder d blocks
 
 -- the routed DEF of a design that the files gave, read again, says what DEF said, and its wiring states the final wires
 abbrev pub ReadsBack : {told : Option Files} {asked : CommandLine} {text : List ℕ} {d : Design} → IsDesigned told asked text d → List Block → Type 0

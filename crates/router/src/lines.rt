@@ -163,7 +163,7 @@ fn def_text(text: &mut Text, error: &DefError) -> Result<(), Memory>
             section,
             said,
             found,
-        } => with_name_numbers(text, b"count", section.bytes(), *said, *found),
+        } => with_name_numbers(text, b"count", section.bytes(), u128::from(*said), u128::from(*found)),
         DefError::DiePolygon { line } => with_number(text, b"die-polygon", u128::from(*line)),
         DefError::Missing { what } => with_name(text, b"missing", what.bytes()),
         DefError::Memory => text.bytes(b"memory"),

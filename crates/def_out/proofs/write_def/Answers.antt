@@ -1,6 +1,5 @@
-use Rattle.std.proofs.Common.{◌≡◌, ◌∙◌, ◌++◌, ◌+◌, ◌<◌, ◌≤◌, ℕ, List, ap, length, get_or, drop, arith}
+use Rattle.std.proofs.Common.{◌≡◌, ◌∙◌, ◌++◌, ◌+◌, ◌<◌, ℕ, List, ap, length, drop, arith}
 use Rattle.std.specs.Prelude.{flat_map, slice_range}
-use Rattle.track_graph.specs.declared.history.NetState.{NetState}
 use Rattle.track_graph.specs.States.{net_state}
 use Rattle.track_graph.specs.Strokes.{walk_strokes}
 use Rattle.def_out.specs.Conditions.{AreCloses}

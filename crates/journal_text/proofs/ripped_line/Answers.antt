@@ -1,4 +1,4 @@
-use Rattle.std.proofs.Common.{◌≡◌, ◌++◌, List, ℕ}
+use Rattle.std.proofs.Common.{◌++◌, List, ℕ}
 use Rattle.std.specs.Prelude.{codes, flat_map}
 use Rattle.track_graph.proofs.PathLemmas.{joined}
 use Rattle.journal_text.specs.Lines.{ripped_text}

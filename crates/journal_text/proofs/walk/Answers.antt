@@ -1,4 +1,4 @@
-use Rattle.std.proofs.Common.{◌≡◌, ◌++◌, List, ℕ}
+use Rattle.std.proofs.Common.{◌++◌, List, ℕ}
 use Rattle.std.specs.Prelude.{codes, flat_map}
 use Rattle.track_graph.specs.Strokes.{path_strokes}
 use Rattle.track_graph.proofs.PathLemmas.{joined}

@@ -1,4 +1,4 @@
-use Rattle.std.proofs.Common.{◌≡◌, ◌∙◌, ◌+◌, ap, sym, count_by, true, false}
+use Rattle.std.proofs.Common.{◌∙◌, ◌+◌, ap, sym, count_by}
 use Rattle.report.specs.Lines.{is_done}
 use Rattle.report.proofs.Lists.{count-zip_yes, count-zip_no, take_all-zip}
 use Rattle.report.proofs.counts.done_count.Goals.{then-is_done, else-is_done}

@@ -1,4 +1,4 @@
-use Rattle.std.proofs.Common.{◌≡◌, ◌∙◌, ◌+◌, ap, sym, count_by, true, false}
+use Rattle.std.proofs.Common.{◌∙◌, ◌+◌, ap, sym, count_by}
 use Rattle.report.specs.Lines.{is_open}
 use Rattle.report.proofs.Lists.{count-zip_yes, count-zip_no, take_all-zip}
 use Rattle.report.proofs.counts.open_count.Goals.{then-is_open, else-is_open}

@@ -1,4 +1,4 @@
-use Rattle.std.proofs.Common.{◌≡◌, ◌++◌, List, ℕ, count_by, length}
+use Rattle.std.proofs.Common.{◌++◌, List, ℕ, count_by, length}
 use Rattle.std.specs.Prelude.{codes}
 use Rattle.std.specs.List.{zip}
 use Rattle.report.specs.Lines.{count_line, is_done, is_open}

@@ -1,4 +1,4 @@
-use Rattle.std.proofs.Common.{◌≡◌, ◌∙◌, ◌+◌, ap, sym, sum_by, take, ℕ}
+use Rattle.std.proofs.Common.{◌∙◌, ◌+◌, ap, sym, sum_by, take, ℕ}
 use Rattle.std.specs.List.{enumerate_from}
 use Rattle.report.specs.Lines.{net_wire}
 use Rattle.report.proofs.Lists.{sum-enumerate, take_all-enumerate}

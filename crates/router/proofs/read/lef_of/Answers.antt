@@ -1,6 +1,5 @@
 use Rattle.std.proofs.Common.{inl}
 use Rattle.std.proofs.lemmas.Result.{err_from_is_err_and}
-use Rattle.rt_base.proofs.Scanning.{made_inside}
 use Rattle.router.proofs.ReadLemmas.{def_refusal, lef_refusal, lef_refused}
 use Rattle.router.proofs.read.lef_of.Goals as goal
 
@@ -11,7 +10,7 @@ returns-in_err-units-clause-refusal c =
     rw (p.1, p.2) (def_refusal c.args.lef.now c.args.def.now _ (λ ne. inl (units.refused ne)))
 
 pub read_lef_tokens-requires : goal.read_lef_tokens-requires
-read_lef_tokens-requires c = rw (c.as_slice-3.ensures, c.as_slice-4.ensures) (made_inside _ _ c.requires.lef.cut.made)
+read_lef_tokens-requires c = rw (c.as_slice-3.ensures, c.as_slice-4.ensures) c.requires.lef.cut
 
 pub returns-in_err-read_lef_tokens-clause-refusal : goal.returns-in_err-read_lef_tokens-clause-refusal
 returns-in_err-read_lef_tokens-clause-refusal c =
