@@ -1,5 +1,5 @@
 -- Guides of nets.
-use Rattle.std.proofs.Common.{Result, Ok, Err, IfOk, ◌∙◌, ◌≡◌, ◌^◌, ℕ, List, [], ◌∷◌, Option, Some, None, option_map, unwrap_or, IfSome, All, sym, ap, subst, arith, refl, bytes_eq, position, length}
+use Rattle.std.proofs.Common.{Result, Ok, Err, IfOk, ◌∙◌, ◌≡◌, ◌^◌, ℕ, List, [], ◌∷◌, Option, Some, None, option_map, unwrap_or, IfSome, All, sym, ap, subst, arith, refl, bytes_eq, position}
 use Rattle.std.specs.List.{filter_map, cons_option, find, enumerate_from}
 use Rattle.std.proofs.lemmas.List.Elements.{All-cons, All-head, All-tail, All-map}
 use Rattle.rt_base.specs.Sides.{Sides}

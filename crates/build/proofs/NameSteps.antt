@@ -1,7 +1,7 @@
 -- The first fault of names, by the look-ups.
-use Rattle.std.proofs.Common.{◌≡◌, ◌≢◌, ℕ, zero, suc, List, [], ◌∷◌, ◌++◌, bytes_eq, not, Option, Some, None, Result, IsErrAnd, length, refl, sym, ap, ◌∙◌, unwrap_or}
+use Rattle.std.proofs.Common.{◌≡◌, ◌≢◌, ℕ, zero, suc, List, [], ◌∷◌, ◌++◌, bytes_eq, not, Option, Some, None, Result, IsErrAnd, refl, sym, ap, ◌∙◌, unwrap_or}
 use Rattle.std.specs.Option.{option_or}
-use Rattle.std.specs.List.{list_any, enumerate_from}
+use Rattle.std.specs.List.{list_any}
 use Rattle.rt_base.specs.Sides.{Sides}
 use Rattle.rt_base.specs.declared.tech.Layer.{Layer}
 use Rattle.lef_text.specs.declared.lef.Macro.{Macro}
@@ -11,9 +11,8 @@ use Rattle.def_text.specs.declared.def.TrackRow.{TrackRow}
 use Rattle.guide_text.specs.IsGuides.{Guide}
 use Rattle.build.specs.declared.error.BuildError.{BuildError}
 use Rattle.build.specs.declared.error.BuildError.TheVariants.{NoNet, Memory as OutOfMemory}
-use Rattle.build.specs.declared.error.Limited.TheVariants.{RoutingLayers}
 use Rattle.build.specs.declared.lookup.Lookup.{Lookup}
-use Rattle.build.specs.Faults.{first_of, first_by, fault_if, scale_fault, layer_fault, row_fault, rects_fault, pin_fault, component_fault, guide_fault, vias_part, wiring_fault, net_fault, level_fault, limit_fault, unit_fault, placed_fault, wired_fault, level_and_guide_fault}
+use Rattle.build.specs.Faults.{first_of, first_by, fault_if, row_fault, rects_fault, pin_fault, component_fault, guide_fault, level_fault}
 use Rattle.build.specs.Findings.{Finds}
 use Rattle.build.specs.Indexes.{Tells}
 use Rattle.build.specs.Indexing.{IsLookup}
@@ -21,7 +20,7 @@ use Rattle.build.specs.Inputs.{Input}
 use Rattle.build.specs.LookUps.{layer_names_of, net_names}
 use Rattle.build.specs.TrackLines.{routing_layers}
 use Rattle.build.proofs.FirstFaults.{fault_here, fault_later, AllNone, told_fault, told_same, found_fault}
-use Rattle.build.proofs.KnownLemmas.{layer_fault_same, row_fault_same, pin_fault_same, rects_fault_same}
+use Rattle.build.proofs.KnownLemmas.{row_fault_same, pin_fault_same, rects_fault_same}
 
 -- what the tests look at is what the input says
 pub rows_same : (i : Input) (known : Lookup) (rows : List TrackRow) → IsLookup i.lef i.def known → rows ≡ i.def.tracks → first_by (row_fault known.layers) rows ≡ first_by (row_fault (layer_names_of i.lef)) i.def.tracks

@@ -1,8 +1,7 @@
 -- Levels by their layers, usable vias, and that the technology built is one.
-use Rattle.std.proofs.Common.{◌≡◌, ◌⊎◌, ℕ, zero, suc, ◌+◌, ◌^◌, ◌<◌, ◌≤◌, List, [], ◌∷◌, ◌++◌, Bool, true, false, not, cond, length, get_or, map, take, unwrap_or, All, Any, refl, sym, ap, subst, ◌∙◌, inl, inr, arith}
+use Rattle.std.proofs.Common.{◌≡◌, ℕ, zero, suc, ◌+◌, ◌^◌, ◌<◌, ◌≤◌, List, [], ◌∷◌, Bool, true, false, not, cond, length, get_or, map, unwrap_or, All, refl, sym, ap, subst, ◌∙◌, arith}
 use Rattle.std.specs.List.{AllZip}
-use Rattle.std.proofs.lemmas.Bool.{cases_lt}
-use Rattle.std.proofs.lemmas.List.{length-map, map-append, take_more, length-take-le}
+use Rattle.std.proofs.lemmas.List.{length-map}
 use Rattle.std.proofs.lemmas.List.Elements.{All-cons, All-head, All-tail, All-weaker}
 use Rattle.std.proofs.lemmas.Option.{slice_get-map, unwrap_or-slice_get}
 use Rattle.rt_base.specs.Ranges.{IsWithin, AreSidesWithin, IsWidth}
@@ -11,7 +10,7 @@ use Rattle.rt_base.specs.declared.tech.Layer.{Layer}
 use Rattle.rt_base.specs.declared.tech.Tech.{Tech}
 use Rattle.rt_base.specs.declared.tech.Via.{Via}
 use Rattle.track_graph.specs.Designs.{IsUsable, IsViaOf, IsTech, IsLayerOf, Alternate as AlternateLevels}
-use Rattle.track_graph.specs.Levels.{routing_from, levels, number_of, layer_no, is_horizontal}
+use Rattle.track_graph.specs.Levels.{routing_from, levels, is_horizontal}
 use Rattle.track_graph.specs.Metal.{Metal}
 use Rattle.lef_text.specs.declared.lef.Lef.{Lef}
 use Rattle.lef_text.specs.IsLef.{IsLef, IsLayer, IfRouting, Alternate, directions}

@@ -1,5 +1,5 @@
 -- Track lines are in range, and the tracks built are tracks of the technology.
-use Rattle.std.proofs.Common.{◌≡◌, ◌⊎◌, ◌↔◌, ℕ, zero, suc, ◌+◌, ◌*◌, ◌^◌, ◌<◌, ◌≤◌, ℤ, pos, negsuc, ◌+ℤ◌, ◌*ℤ◌, ◌≤ℤ◌, ◌<ℤ◌, List, [], ◌∷◌, ◌++◌, Bool, true, false, cond, length, get_or, map, take, fold, All, Any, AllPairs, Contains, IsTrue, FitsSigned, w64, refl, sym, ap, subst, ◌∙◌, inl, inr, arith}
+use Rattle.std.proofs.Common.{◌≡◌, ◌⊎◌, ◌↔◌, ℕ, ◌+◌, ◌*◌, ◌^◌, ◌<◌, ◌≤◌, ℤ, pos, negsuc, ◌+ℤ◌, ◌*ℤ◌, ◌≤ℤ◌, ◌<ℤ◌, List, [], ◌∷◌, ◌++◌, Bool, true, false, cond, length, get_or, map, take, fold, All, Any, AllPairs, Contains, IsTrue, FitsSigned, w64, sym, ap, subst, ◌∙◌, inl, inr, arith}
 use Rattle.std.specs.Int.{int_max}
 use Rattle.std.specs.List.{AllZip}
 use Rattle.std.proofs.Math.Nat.{mul-le-mul, mul-le-mul_right}

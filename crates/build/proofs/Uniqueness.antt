@@ -1,35 +1,27 @@
 -- LEF, DEF and options give one design or one refusal, and not both.
-use Rattle.std.proofs.Common.{◌≡◌, ◌≢◌, ◌⊎◌, ◌↔◌, ℕ, zero, suc, ◌+◌, ◌<◌, ℤ, ◌<ℤ◌, List, [], ◌∷◌, Bool, true, false, Option, Some, None, length, All, AllPairs, Any, Contains, IsTrue, refl, sym, ap, subst, ◌∙◌, inl, inr, arith, ⊎_elim, ◌≤◌}
-use Rattle.std.specs.Prelude.{sum_by}
-use Rattle.std.specs.List.{AllZip, enumerate_from}
+use Rattle.std.proofs.Common.{◌≡◌, ◌≢◌, ◌⊎◌, ◌↔◌, zero, suc, ◌+◌, ◌<◌, ℤ, ◌<ℤ◌, List, [], ◌∷◌, Bool, true, false, Option, Some, None, length, All, AllPairs, Any, Contains, IsTrue, refl, sym, ap, subst, ◌∙◌, inl, inr, arith, ⊎_elim, ◌≤◌}
+use Rattle.std.specs.List.{AllZip}
 use Rattle.std.proofs.lemmas.Int.{ints}
 use Rattle.std.proofs.lemmas.Option.{same_Some, none-some}
-use Rattle.std.proofs.lemmas.List.Sums.{sum_by-cons}
-use Rattle.rt_base.specs.declared.geometry.Point.{Point}
 use Rattle.rt_base.specs.declared.tech.Layer.{Layer}
 use Rattle.rt_base.specs.declared.tech.Tech.{Tech}
 use Rattle.rt_base.specs.declared.tech.Via.{Via}
-use Rattle.rt_base.specs.declared.walk.Vertex.{Vertex}
-use Rattle.rt_base.specs.declared.walk.Entry.{Entry}
 use Rattle.track_graph.specs.declared.design.Design.{Design}
-use Rattle.track_graph.specs.declared.design.Net.{Net}
 use Rattle.track_graph.specs.declared.design.Options.{Options}
-use Rattle.track_graph.specs.declared.design.Pin.{Pin}
 use Rattle.track_graph.specs.declared.design.Tracks.{Tracks}
 use Rattle.track_graph.specs.Designs.{IsUsable}
-use Rattle.track_graph.specs.Levels.{TrackSystem, routing_from, layer_no}
+use Rattle.track_graph.specs.Levels.{routing_from, layer_no}
 use Rattle.track_graph.specs.Metal.{Metal}
-use Rattle.pin_access.specs.EntryOrder.{IsPointBefore, IsVertexBefore, IsEntryBefore, system_of}
+use Rattle.pin_access.specs.EntryOrder.{system_of}
 use Rattle.lef_text.specs.declared.lef.Lef.{Lef}
 use Rattle.def_text.specs.declared.def.Def.{Def}
-use Rattle.def_text.specs.declared.def.DefNet.{DefNet}
 use Rattle.def_text.specs.declared.def.TrackRow.{TrackRow}
-use Rattle.build.specs.Built.{IsViaSaid, IsTechOf, AreEntriesOf, IsPinOf, IsNetOf, fixed_of, grid_of}
+use Rattle.build.specs.Built.{IsViaSaid, IsTechOf, fixed_of, grid_of}
 use Rattle.build.specs.Wires.{wiring_tech}
 use Rattle.build.specs.TrackLines.{AreTracksOf, AreLinesOf, routing_layers}
 use Rattle.build.specs.declared.error.BuildError.{BuildError}
 use Rattle.build.specs.declared.error.BuildError.TheVariants.{Scale, NoMacro, NoComponent, NoPin, NoLayer, NoNet, Wiring, PinTwice, NoTracks, Limit, Memory}
-use Rattle.build.specs.Faults.{entry_count, count_fault, size_by, size_fault}
+use Rattle.build.specs.Faults.{entry_count, count_fault, size_by}
 use Rattle.build.specs.Inputs.{Input}
 use Rattle.build.specs.EntryCounts.{NetsHave}
 use Rattle.build.proofs.EntryTotals.{nets_unique, nets_counted}

@@ -1,7 +1,7 @@
 -- The shapes of the input are fixed, and those of wiring follow those that are placed.
-use Rattle.std.proofs.Common.{◌≡◌, ℕ, ◌+◌, ◌*◌, ◌^◌, ◌<◌, ◌≤◌, List, [], ◌∷◌, ◌++◌, true, false, IsTrue, length, get_or, map, fold, max, unsigned_abs, All, refl, sym, ap, subst, ◌∙◌, arith}
+use Rattle.std.proofs.Common.{◌≡◌, ℕ, ◌+◌, ◌^◌, ◌<◌, ◌≤◌, List, [], ◌∷◌, ◌++◌, true, false, length, get_or, map, fold, max, All, refl, sym, ap, subst, ◌∙◌, arith}
 use Rattle.std.specs.List.{flat_map, enumerate_from}
-use Rattle.std.proofs.lemmas.List.{length-map, length-append, get_or-map}
+use Rattle.std.proofs.lemmas.List.{length-append, get_or-map}
 use Rattle.std.proofs.lemmas.List.Elements.{All-cons, All-head, All-tail, All-append, All-weaker, All-map}
 use Rattle.rt_base.specs.declared.tech.Layer.{Layer}
 use Rattle.rt_base.specs.declared.tech.Owner.{Owner}
@@ -14,8 +14,6 @@ use Rattle.track_graph.specs.Designs.{IsFixed}
 use Rattle.track_graph.specs.Metal.{Metal}
 use Rattle.def_wires.specs.Sound.{IsOn}
 use Rattle.def_text.specs.declared.def.DefNet.{DefNet}
-use Rattle.lef_text.specs.declared.lef.Lef.{Lef}
-use Rattle.def_text.specs.declared.def.Def.{Def}
 use Rattle.cells.specs.Cells.{fixed_shape, fixed_shapes}
 use Rattle.build.specs.declared.wires.WireMetal.{WireMetal}
 use Rattle.build.specs.Built.{placed_of, fixed_of}
@@ -24,7 +22,6 @@ use Rattle.build.specs.Inputs.{Input, IsInput}
 use Rattle.build.specs.LookUps.{connected_rects}
 use Rattle.build.specs.Metals.{AreOn, IsWireMetal, IsOnLayer, wire_shapes}
 use Rattle.build.specs.Wires.{tech_said, metal_of_net, named_owner, special_shapes, wired_shapes}
-use Rattle.build.proofs.CellLemmas.{All-parts}
 use Rattle.build.proofs.MetalLemmas.{placed_are, connected_few}
 
 -- no shape is farther off than the largest coordinate

@@ -21,7 +21,6 @@ use Rattle.def_text.specs.declared.def.DefNet.{DefNet}
 use Rattle.def_text.specs.declared.def.IoPin.{IoPin}
 use Rattle.def_text.specs.declared.def.TrackRow.{TrackRow}
 use Rattle.guide_text.specs.IsGuides.{Guide}
-use Rattle.def_wires.specs.declared.error.WireFault.{WireFault}
 use Rattle.fixed_wires.specs.FixedWires.{vias_fault, wires_fault}
 use Rattle.cells.specs.Cells.{macro_of}
 use Rattle.cells.specs.Owners.{owner_of}

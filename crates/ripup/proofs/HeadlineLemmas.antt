@@ -1,13 +1,6 @@
 -- What a history promises at each of its blocks.
-use Rattle.std.proofs.Common.{◌≡◌, ◌∙◌, ⊎_elim, ℕ, List, ◌∷◌, ◌++◌, Bool, true, false, ◌&&◌, ◌==◌, not, max, refl, ap, subst, Contains, arith}
-use Rattle.std.proofs.lemmas.Bool.Decides.{nat_tests}
+use Rattle.std.proofs.Common.{◌∙◌, ⊎_elim, List, ◌∷◌, ◌++◌, subst, Contains}
 use Rattle.std.proofs.lemmas.List.Elements.{Contains-append_cases, Contains-append_left}
-use Rattle.rt_base.specs.Conflict.{conflict_of, same_owner, spacing_of, is_near_of}
-use Rattle.rt_base.specs.Geometry.{gap_x, gap_y}
-use Rattle.rt_base.specs.declared.tech.Owner.{Owner}
-use Rattle.rt_base.specs.declared.tech.Owner.TheVariants.{Net as OfNet, Nobody}
-use Rattle.rt_base.specs.declared.tech.Shape.{Shape}
-use Rattle.rt_base.specs.declared.tech.Tech.{Tech}
 use Rattle.track_graph.specs.declared.design.Design.{Design}
 use Rattle.track_graph.specs.declared.history.Block.{Block}
 use Rattle.track_graph.specs.declared.history.State.{State}

@@ -1,5 +1,5 @@
 -- What a search asks of a net and a reading is what was asked of a whole state before: the sentences of then, and that they agree with those of now.
-use Rattle.std.proofs.Common.{◌≡◌, ◌↔◌, ◌⊎◌, inl, inr, ⊎_elim, ℕ, zero, suc, ◌+◌, ◌<◌, ◌≤◌, ◌==◌, ◌||◌, List, [], ◌∷◌, ◌++◌, Bool, true, false, not, if◌then◌else◌, sym, refl, ap, ◌∙◌, subst, length, get_or, slice_get, Some, Any, Contains, arith}
+use Rattle.std.proofs.Common.{◌≡◌, ◌↔◌, ◌⊎◌, ℕ, zero, suc, ◌+◌, ◌<◌, ◌≤◌, ◌==◌, ◌||◌, List, [], ◌∷◌, ◌++◌, Bool, true, false, not, if◌then◌else◌, sym, refl, ap, ◌∙◌, subst, length, get_or, slice_get, Some, Any, Contains, arith}
 use Rattle.std.specs.List.{list_any}
 use Rattle.std.proofs.lemmas.Bool.Decides.{nat_tests}
 use Rattle.std.proofs.lemmas.Option.{unwrap_or-slice_get}
@@ -14,7 +14,7 @@ use Rattle.track_graph.specs.Entries.{entries_of}
 use Rattle.track_graph.specs.Guide.{InGuide}
 use Rattle.track_graph.specs.Levels.{track_system_of}
 use Rattle.track_graph.specs.Readings.{hard_reading, reading_without}
-use Rattle.track_graph.specs.Searches.{Reading, some_conflict, guide_of, IsWalk, IsInside, IsLegal, IsLeast, NoneLegal, walk_cost}
+use Rattle.track_graph.specs.Searches.{Reading, some_conflict, guide_of, IsLegal, IsLeast, NoneLegal, walk_cost}
 use Rattle.track_graph.specs.States.{net_state, net_shapes, standing_from, every_net, standing, emptied}
 use Rattle.track_graph.specs.Walks.{IsPath, end_of, vertices_of, PathInGuide, walk_shapes_of}
 use Rattle.track_graph.proofs.StateLemmas.{blank, length-emptied, emptied-has_none, emptied-others}

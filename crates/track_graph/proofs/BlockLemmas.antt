@@ -1,5 +1,5 @@
 -- A right block is one of the design, and so is each history.
-use Rattle.std.proofs.Common.{◌≡◌, ℕ, ◌+◌, ◌<◌, List, [], ◌∷◌, ◌++◌, Bool, true, false, cond, ◌&&◌, sym, subst, length, get_or, fold, All, arith}
+use Rattle.std.proofs.Common.{ℕ, ◌+◌, ◌<◌, List, [], ◌∷◌, ◌++◌, Bool, true, false, cond, ◌&&◌, sym, subst, length, get_or, fold, All, arith}
 use Rattle.std.proofs.lemmas.List.Elements.{All-nil, All-cons}
 use Rattle.rt_base.specs.declared.walk.Walk.{Walk}
 use Rattle.track_graph.specs.declared.design.Design.{Design}

@@ -1,5 +1,5 @@
 -- Entries of a design: their pins, their rectangles and their vertices.
-use Rattle.std.proofs.Common.{◌≡◌, ℕ, ◌^◌, ◌+◌, ◌⊎◌, inl, inr, ◌<◌, ◌≤◌, List, [], length, get_or, Option, Some, None, option_map, unwrap_or, slice_get, All, Contains, ⊎_elim, refl, sym, subst, ◌∙◌, arith}
+use Rattle.std.proofs.Common.{◌≡◌, ℕ, ◌^◌, ◌+◌, ◌⊎◌, inl, inr, ◌<◌, ◌≤◌, List, [], length, get_or, Option, Some, None, option_map, unwrap_or, slice_get, Contains, ⊎_elim, refl, sym, subst, ◌∙◌, arith}
 use Rattle.rt_base.proofs.Lists.{All-at}
 use Rattle.std.proofs.lemmas.Option.{slice_get_within, slice_get-get_or}
 use Rattle.rt_base.specs.Sides.{Sides}

@@ -1,5 +1,5 @@
 -- Ascending numbers: where a search parts them, what stands beside a number, and the parts below and above a bound.
-use Rattle.std.proofs.Common.{◌≡◌, ◌↔◌, ⊎_elim, ℕ, ◌+◌, ◌-◌, ◌<◌, ◌≤◌, ℤ, ◌<ℤ◌, ◌≤ℤ◌, int_lt, List, true, false, Some, slice_get, length, get_or, take, drop, AllPairs, Contains, Option, None, MatchOption, Bor, subst, sym, ap, ◌∙◌, arith, length-take, length-drop}
+use Rattle.std.proofs.Common.{◌≡◌, ◌↔◌, ⊎_elim, ℕ, ◌+◌, ◌-◌, ◌<◌, ◌≤◌, ℤ, ◌<ℤ◌, ◌≤ℤ◌, int_lt, List, true, false, Some, slice_get, length, get_or, take, drop, Contains, Option, None, MatchOption, Bor, subst, sym, ap, ◌∙◌, arith, length-take, length-drop}
 use Rattle.std.specs.List.Sorted.{IsPartitionPoint, IsPartitionedBy}
 use Rattle.std.proofs.lemmas.Bool.{cases_lt}
 use Rattle.std.proofs.lemmas.Int.{ints}

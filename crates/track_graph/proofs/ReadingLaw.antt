@@ -1,5 +1,5 @@
 -- The law of readings: two readings that say the same of each shape that a walk of a net inside its guide can put down have the same legal walks of the net, at the same costs, and so the same least ones, and none where the other has none.
-use Rattle.std.proofs.Common.{◌≡◌, ◌↔◌, ◌⊎◌, ⊎_elim, ℕ, zero, suc, ◌+◌, ◌*◌, ◌≤◌, List, [], ◌∷◌, ◌++◌, Bool, if◌then◌else◌, sym, refl, ap, ◌∙◌, subst, Contains, sum_by, arith}
+use Rattle.std.proofs.Common.{◌≡◌, ⊎_elim, ℕ, suc, ◌+◌, ◌*◌, ◌≤◌, List, [], ◌∷◌, Bool, if◌then◌else◌, sym, refl, ap, ◌∙◌, subst, Contains, sum_by, arith}
 use Rattle.std.specs.List.{list_any}
 use Rattle.std.proofs.lemmas.List.Sums.{sum_by-cons}
 use Rattle.std.proofs.lemmas.List.Elements.{Contains-append_left, Contains-append_right}
@@ -10,7 +10,7 @@ use Rattle.rt_base.proofs.Lists.{in_cons}
 use Rattle.track_graph.specs.declared.design.Design.{Design}
 use Rattle.track_graph.specs.declared.history.NetState.{NetState}
 use Rattle.track_graph.specs.Metal.{Metal, shapes_of}
-use Rattle.track_graph.specs.Readings.{CanPutDown, SayTheSame, AreAlike, AnswerAlike}
+use Rattle.track_graph.specs.Readings.{SayTheSame, AreAlike, AnswerAlike}
 use Rattle.track_graph.specs.Searches.{Reading, some_conflict, IsWalk, IsInside, IsLegal, IsLeast, NoneLegal, part_cost, walk_cost}
 use Rattle.track_graph.specs.Walks.{parts_shapes, walk_parts, walk_shapes_of}
 

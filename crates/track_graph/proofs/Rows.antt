@@ -1,30 +1,17 @@
 -- Worked examples of the definitions: a chip of two levels, whose costs, shapes and strokes were counted by hand.
-use Rattle.std.proofs.Common.{◌≡◌, ℕ, ◌<◌, ◌≤◌, ℤ, pos, negsuc, ◌≤ℤ◌, ◌<ℤ◌, ◌⊎◌, List, [], ◌∷◌, ◌++◌, Bool, true, false, refl, inl, inr, arith}
+use Rattle.std.proofs.Common.{◌≡◌, ℕ, ℤ, pos, negsuc, ◌≤ℤ◌, ◌<ℤ◌, ◌⊎◌, List, [], ◌∷◌, true, false, refl, inl, inr, arith}
 use Rattle.rt_base.specs.Sides.{Sides}
 use Rattle.rt_base.specs.Conflict.{conflict_of}
 use Rattle.rt_base.specs.Geometry.{Holds}
 use Rattle.rt_base.specs.declared.geometry.Point.{Point}
-use Rattle.rt_base.specs.declared.tech.Layer.{Layer}
-use Rattle.rt_base.specs.declared.tech.LayerNo.{LayerNo}
-use Rattle.rt_base.specs.declared.tech.Owner.{Owner}
 use Rattle.rt_base.specs.declared.tech.Owner.TheVariants.{Net as OfNet, Nobody}
 use Rattle.rt_base.specs.declared.tech.Shape.{Shape}
-use Rattle.rt_base.specs.declared.tech.Tech.{Tech}
-use Rattle.rt_base.specs.declared.tech.Via.{Via}
-use Rattle.rt_base.specs.declared.walk.Edge.{Edge}
-use Rattle.rt_base.specs.declared.walk.EdgeKind.TheVariants.{Along, Via as ByVia}
-use Rattle.rt_base.specs.declared.walk.Entry.{Entry}
 use Rattle.rt_base.specs.declared.walk.EntryKind.TheVariants.{Pin as AtPin}
-use Rattle.rt_base.specs.declared.walk.Vertex.{Vertex}
 use Rattle.rt_base.specs.declared.walk.Walk.{Walk}
 use Rattle.track_graph.specs.Readings.{hard_reading, soft_reading}
 use Rattle.track_graph.specs.declared.design.Design.{Design}
-use Rattle.track_graph.specs.declared.design.Net.{Net}
-use Rattle.track_graph.specs.declared.design.NetKind.TheVariants.{Routable}
-use Rattle.track_graph.specs.declared.design.Pin.{Pin}
 use Rattle.track_graph.specs.declared.history.Stroke.{Stroke}
 use Rattle.track_graph.specs.declared.history.Stroke.TheVariants.{Run, Via as ViaAt}
-use Rattle.track_graph.specs.Metal.{Metal}
 use Rattle.track_graph.specs.declared.history.Block.TheVariants.{Wire, RipFor}
 use Rattle.track_graph.specs.declared.history.State.{State}
 use Rattle.track_graph.specs.Histories.{crossed_from}

@@ -1,17 +1,14 @@
 -- Numbers in range: points of the die, hulls and distances.
-use Rattle.std.proofs.Common.{Bool, true, false, cond, ◌≡◌, ℕ, ◌+◌, ◌^◌, ◌<◌, ◌≤◌, ℤ, pos, negsuc, ◌+ℤ◌, ◌-ℤ◌, ◌≤ℤ◌, unsigned_abs, FitsSigned, to_z, of_z, w64, List, [], ◌∷◌, Some, slice_get, zero, suc, length, arith}
-use Rattle.std.specs.Int.{int_min, int_max}
-use Rattle.std.proofs.lemmas.Int.{ints, clamps, to_z-of_z, fits_signed_from_abs}
+use Rattle.std.proofs.Common.{Bool, true, false, cond, ◌≡◌, ℕ, ◌+◌, ◌^◌, ◌<◌, ◌≤◌, List, [], ◌∷◌, Some, slice_get, zero, suc, length, arith}
 use Rattle.std.proofs.lemmas.Option.{some_pair_parts}
-use Rattle.rt_base.specs.Sides.{Sides}
 use Rattle.rt_base.proofs.Ranges.{within-between, unsigned_abs-diff}
 use Rattle.rt_base.specs.declared.geometry.Point.{Point}
 use Rattle.rt_base.specs.declared.tech.Layer.{Layer}
 use Rattle.rt_base.specs.declared.walk.Vertex.{Vertex}
 use Rattle.track_graph.specs.declared.design.Design.{Design}
 use Rattle.track_graph.specs.Designs.{IsDesign}
-use Rattle.rt_base.specs.Ranges.{IsWithin, IsPointWithin, AreSidesWithin}
-use Rattle.rt_base.specs.Geometry.{hull_of, distance}
+use Rattle.rt_base.specs.Ranges.{IsPointWithin}
+use Rattle.rt_base.specs.Geometry.{distance}
 use Rattle.track_graph.specs.Levels.{track_system_of, IsVertex, routing_from}
 
 -- a vertex stands within the die's bound

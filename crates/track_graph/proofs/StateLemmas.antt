@@ -1,5 +1,5 @@
 -- Laws of states: what a change of one net leaves, and that blocks keep a state one of its design.
-use Rattle.std.proofs.Common.{◌≡◌, ◌≢◌, ◌⊎◌, ⊎_elim, inl, inr, ℕ, zero, suc, ◌<◌, List, [], ◌∷◌, ◌++◌, Bool, true, false, sym, refl, ap, ◌∙◌, subst, Some, None, Option, option_map, unwrap_or, length, slice_get, slice_set, replicate, All, Contains, arith}
+use Rattle.std.proofs.Common.{◌≡◌, ◌≢◌, ◌⊎◌, ⊎_elim, inl, inr, ℕ, suc, ◌<◌, List, [], ◌∷◌, ◌++◌, Bool, true, false, sym, refl, ap, ◌∙◌, subst, Some, None, Option, option_map, unwrap_or, length, slice_get, slice_set, replicate, All, Contains, arith}
 use Rattle.std.proofs.lemmas.List.{length-set, length-map, get_or-set_same, get_or-set_other, set_comm}
 use Rattle.std.proofs.lemmas.List.Elements.{All-nil, All-push, All-tail}
 use Rattle.std.proofs.lemmas.Bool.{cases_eq}

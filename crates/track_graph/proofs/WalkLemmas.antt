@@ -1,5 +1,5 @@
 -- A walk of a search is a walk of its net.
-use Rattle.std.proofs.Common.{◌≡◌, ◌⊎◌, ⊎_elim, inl, inr, ℕ, ◌<◌, ◌≤◌, List, [], ◌∷◌, Option, Some, None, true, false, refl, sym, ap, ◌∙◌, subst, length, slice_get, option_map, All, Any, Contains, arith}
+use Rattle.std.proofs.Common.{◌≡◌, ⊎_elim, inl, inr, ℕ, ◌<◌, ◌≤◌, List, [], ◌∷◌, Option, Some, None, true, false, sym, ap, ◌∙◌, subst, length, slice_get, option_map, All, Any, Contains, arith}
 use Rattle.std.proofs.lemmas.Bool.{cases_lt}
 use Rattle.std.proofs.lemmas.Option.{slice_get_past, slice_get_within}
 use Rattle.rt_base.specs.declared.walk.Edge.{Edge}
@@ -21,8 +21,8 @@ use Rattle.track_graph.specs.Entries.{entries_of, pins_of, rects_of, pin_of}
 use Rattle.track_graph.specs.Histories.{IsRoutable}
 use Rattle.track_graph.specs.Levels.{TrackSystem, track_system_of, IsVertex}
 use Rattle.track_graph.specs.Metal.{Metal}
-use Rattle.track_graph.specs.NetWalks.{IsNetWalk, IsEntryOfPin, IsWalkOf}
-use Rattle.track_graph.specs.Searches.{IsWalk, IsFinish}
+use Rattle.track_graph.specs.NetWalks.{IsNetWalk, IsWalkOf}
+use Rattle.track_graph.specs.Searches.{IsWalk}
 use Rattle.track_graph.specs.States.{net_state}
 use Rattle.track_graph.specs.Walks.{IsPath, vertices_of}
 use Rattle.track_graph.proofs.EntryLemmas.{KindFits, entry_vertex, pin_entry-fits}

@@ -1,5 +1,5 @@
 -- What holds of every design: its numbers are in range, its parts fit each other, each pin has exactly its entries, and its names can be told apart.
-use Rattle.std.specs.Prelude.{◌≡◌, ◌≢◌, ℕ, ◌+◌, ◌*◌, ◌^◌, ◌≤◌, ◌<◌, ℤ, pos, ◌<ℤ◌, ◌≤ℤ◌, IsTrue, not, List, length, slice_get, Some, All, AllPairs, Any, ◌↔◌, Contains}
+use Rattle.std.specs.Prelude.{◌≡◌, ◌≢◌, ℕ, ◌+◌, ◌*◌, ◌^◌, ◌≤◌, ◌<◌, pos, ◌<ℤ◌, ◌≤ℤ◌, IsTrue, not, List, length, slice_get, Some, All, AllPairs, Any, ◌↔◌, Contains}
 use Rattle.rt_base.specs.Sides.{Sides}
 use Rattle.rt_base.specs.Ranges.{IsWithin, AreSidesWithin, IsWidth}
 use Rattle.rt_base.specs.declared.grid.Grid.{Grid}

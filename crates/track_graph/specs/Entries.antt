@@ -1,5 +1,5 @@
 -- Entries of pins: the vertices in a pin's rectangles, or else stubs to vertices nearby.
-use Rattle.std.specs.Prelude.{◌≡◌, ◌⊎◌, ℕ, ◌*◌, ◌≤◌, ◌==◌, ℤ, pos, List, [], ◌∷◌, ◌++◌, if◌then◌else◌, slice_get, Some, None, Option, Any, option_map, unsigned_abs, unwrap_or}
+use Rattle.std.specs.Prelude.{◌≡◌, ◌⊎◌, ℕ, ◌*◌, ◌≤◌, ◌==◌, pos, List, [], ◌∷◌, ◌++◌, if◌then◌else◌, slice_get, Some, None, Option, Any, option_map, unsigned_abs, unwrap_or}
 use Rattle.rt_base.specs.Sides.{Sides}
 use Rattle.rt_base.specs.Geometry.{Holds, distance, nearest_point}
 use Rattle.rt_base.specs.declared.geometry.Point.{Point}

@@ -1,5 +1,5 @@
 -- Readings of a state: which of its shapes forbid a net's walks, and which are dear.
-use Rattle.std.specs.Prelude.{◌≡◌, ℕ, ◌≤◌, List, [], ◌++◌, Bool, true, ◌&&◌, ◌==◌, not, nat_lt, Contains, ◌↔◌}
+use Rattle.std.specs.Prelude.{◌≡◌, ℕ, List, [], ◌++◌, Bool, ◌&&◌, ◌==◌, not, nat_lt, Contains, ◌↔◌}
 use Rattle.std.specs.List.{list_any}
 use Rattle.rt_base.specs.declared.tech.Shape.{Shape}
 use Rattle.rt_base.specs.declared.tech.Tech.{Tech}

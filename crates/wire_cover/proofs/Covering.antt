@@ -1,5 +1,5 @@
 -- That the same points are covered is an equivalence, and goes through lists put end to end.
-use Rattle.std.proofs.Common.{◌≡◌, ℕ, zero, suc, ◌⊎◌, inl, inr, ⊎_elim, refl, sym, subst, List, [], ◌∷◌, ◌++◌, Any, arith}
+use Rattle.std.proofs.Common.{◌≡◌, ℕ, ◌⊎◌, inl, inr, ⊎_elim, sym, subst, List, [], ◌∷◌, ◌++◌, Any}
 use Rattle.rt_base.proofs.Lists.{Any-cases, Any-none, Any-here, Any-there}
 use Rattle.rt_base.specs.declared.geometry.Point.{Point}
 use Rattle.track_graph.specs.Metal.{Metal}

@@ -1,6 +1,6 @@
 -- Levels are routing layers, with the widths of these.
-use Rattle.std.proofs.Common.{Bool, true, false, cond, ◌≡◌, ℕ, zero, suc, ◌+◌, ◌<◌, List, [], ◌∷◌, length, Some, None, slice_get, get_or, ◌≤◌, All, ⊎_elim, refl, sym, subst, arith}
-use Rattle.std.proofs.lemmas.Option.{some_pair_parts, slice_get_cases, slice_get_within, get_or_from_slice_get}
+use Rattle.std.proofs.Common.{Bool, true, false, cond, ◌≡◌, ℕ, zero, suc, ◌+◌, ◌<◌, List, [], ◌∷◌, length, Some, None, slice_get, get_or, ◌≤◌, ⊎_elim, refl, sym, subst, arith}
+use Rattle.std.proofs.lemmas.Option.{some_pair_parts, slice_get_cases}
 use Rattle.rt_base.proofs.Lists.{All-at}
 use Rattle.rt_base.specs.Ranges.{IsWidth}
 use Rattle.rt_base.specs.declared.tech.Layer.{Layer}

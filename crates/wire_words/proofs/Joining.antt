@@ -1,5 +1,5 @@
 -- The two routing layers on which there are rectangles.
-use Rattle.std.proofs.Common.{◌≡◌, ◌≢◌, ◌∙◌, ℕ, zero, suc, ◌<◌, ◌≤◌, Bool, true, false, ltb, List, [], ◌∷◌, fold, Some, refl, sym, ap, subst, ◌⊎◌, inl, inr, arith, All, Any}
+use Rattle.std.proofs.Common.{◌≡◌, ◌≢◌, ◌∙◌, ℕ, ◌<◌, ◌≤◌, Bool, true, false, ltb, List, [], ◌∷◌, fold, Some, refl, ap, ◌⊎◌, inl, inr, arith, All, Any}
 use Rattle.std.specs.Prelude.{◌==◌}
 use Rattle.std.proofs.lemmas.Bool.{eq-eqb, ne_eqb, lt-ltb, le-ltb, both_ways}
 use Rattle.std.proofs.lemmas.List.Elements.{All-head, All-tail}

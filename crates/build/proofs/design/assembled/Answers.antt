@@ -1,4 +1,4 @@
-use Rattle.std.proofs.Common.{◌∙◌, List, All, length, refl, sym, subst, to_z, of_z, w64}
+use Rattle.std.proofs.Common.{◌∙◌, List, All, refl, sym, subst, to_z, of_z, w64}
 use Rattle.rt_base.specs.declared.tech.Tech.{Tech}
 use Rattle.track_graph.specs.declared.design.Design.{Design}
 use Rattle.pin_access.specs.EntryOrder.{system_of}

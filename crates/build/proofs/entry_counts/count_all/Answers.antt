@@ -1,4 +1,4 @@
-use Rattle.std.proofs.Common.{List, length, ◌<◌, All, sym, ap, subst, arith}
+use Rattle.std.proofs.Common.{List, length, All, sym, ap, subst, arith}
 use Rattle.def_text.specs.declared.def.DefNet.{DefNet}
 use Rattle.def_text.specs.Defs.{IsDefNet}
 use Rattle.build.specs.EntryCounts.{NetsHave}

@@ -1,15 +1,11 @@
 use Rattle.std.proofs.Common.{◌≡◌, ◌∙◌, ℕ, ◌^◌, List, All, refl, sym, ap, subst, arith}
 use Rattle.std.specs.List.{AllZip, enumerate_from}
-use Rattle.std.proofs.lemmas.List.Elements.{All-map}
 use Rattle.rt_base.specs.Sides.{Sides}
 use Rattle.rt_base.specs.Ranges.{AreSidesWithin}
-use Rattle.rt_base.proofs.Ranges.{sides-weaker}
-use Rattle.rt_base.specs.declared.tech.Layer.{Layer}
 use Rattle.track_graph.specs.declared.design.Pin.{Pin}
 use Rattle.track_graph.specs.Designs.{IsPin}
 use Rattle.build.specs.Built.{IsPinOf, guide_of}
 use Rattle.build.specs.Ground.{input_on, system_on}
-use Rattle.build.specs.TrackLines.{routing_layers}
 use Rattle.build.proofs.GuideLemmas.{guide_near}
 use Rattle.build.proofs.Steps.{length-enumerate_from, all_numbered}
 use Rattle.build.proofs.TechLemmas.{AllZip-length}

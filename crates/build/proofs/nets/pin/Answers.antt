@@ -1,9 +1,9 @@
-use Rattle.std.proofs.Common.{◌≡◌, ◌∙◌, ◌↔◌, ◌^◌, ◌<◌, ℕ, List, length, All, AllPairs, Contains, sym, ap, subst, arith}
+use Rattle.std.proofs.Common.{◌≡◌, ◌∙◌, ◌↔◌, List, AllPairs, Contains, sym, subst}
 use Rattle.rt_base.specs.declared.walk.Entry.{Entry}
 use Rattle.track_graph.specs.Entries.{IsEntry}
 use Rattle.track_graph.specs.Metal.{Metal}
 use Rattle.pin_access.specs.EntryOrder.{IsEntryBefore}
-use Rattle.build.specs.Ground.{IsGround, input_on, system_on}
+use Rattle.build.specs.Ground.{input_on, system_on}
 use Rattle.build.specs.LookUps.{connected_rects}
 use Rattle.build.proofs.PinRects.{are_metal, are_few, are_pin_metal}
 use Rattle.build.proofs.nets.pin.Goals as goal

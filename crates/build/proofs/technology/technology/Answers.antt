@@ -1,7 +1,4 @@
-use Rattle.std.proofs.Common.{◌≡◌, List, All, length, subst}
-use Rattle.std.specs.List.{AllZip}
 use Rattle.rt_base.specs.declared.tech.Tech.{Tech}
-use Rattle.rt_base.specs.declared.tech.Via.{Via}
 use Rattle.cells.proofs.Lists.{AllZip-weaker}
 use Rattle.build.specs.Built.{IsViaSaid}
 use Rattle.build.proofs.TechLemmas.{tech_is, said_again}

@@ -1,7 +1,6 @@
-use Rattle.std.proofs.Common.{◌∙◌, ℕ, List, ◌++◌, sym, ap, append_assoc, subst, take, get_or, All}
+use Rattle.std.proofs.Common.{◌∙◌, ℕ, List, sym, ap, subst, take, get_or, All}
 use Rattle.std.proofs.lemmas.List.{take_more, take_all}
 use Rattle.std.proofs.lemmas.List.Elements.{All-nil, All-push}
-use Rattle.track_graph.specs.declared.history.Block.{Block}
 use Rattle.track_graph.specs.Conditions.{IsJournalOf}
 use Rattle.track_graph.specs.Histories.{IsFinished}
 use Rattle.track_graph.specs.Orders.{IsOrder}

@@ -1,4 +1,4 @@
-use Rattle.std.proofs.Common.{◌≡◌, ◌∙◌, sym, subst, ap, Some, slice_get, IsTrue, rules, arith}
+use Rattle.std.proofs.Common.{◌≡◌, ◌∙◌, sym, subst, Some, slice_get, rules, arith}
 use Rattle.std.proofs.lemmas.Option.{gets, same_Some}
 use Rattle.std.proofs.lemmas.Grind.{common_steps}
 use Rattle.rt_base.specs.declared.tech.Via.{Via}

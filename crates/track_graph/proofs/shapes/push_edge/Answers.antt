@@ -1,4 +1,3 @@
-use Rattle.std.proofs.Common.{rules}
 use Rattle.track_graph.proofs.EntryLemmas.{edge_via-exists}
 use Rattle.track_graph.proofs.shapes.push_edge.Goals as goal
 

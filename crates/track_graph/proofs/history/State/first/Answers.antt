@@ -1,7 +1,6 @@
 use Rattle.std.proofs.Common.{◌≡◌, ◌∙◌, ◌≤◌, List, length, ap, sym, subst, map}
 use Rattle.std.proofs.lemmas.List.{take_all}
 use Rattle.track_graph.specs.declared.history.NetState.{NetState}
-use Rattle.track_graph.specs.declared.history.State.{State}
 use Rattle.track_graph.specs.declared.design.Net.{Net}
 use Rattle.track_graph.specs.Conditions.{IsStateOf}
 use Rattle.track_graph.specs.States.{fresh}
