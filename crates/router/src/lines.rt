@@ -229,6 +229,13 @@ fn limit_text(text: &mut Text, what: &[u8], count: u128, most: u64) -> Result<()
     with_name_numbers(text, b"limit", what, count, u128::from(most))
 }
 
+/// The same of the bytes of a file.
+fn bytes_text(text: &mut Text, what: &[u8], count: u64, most: u64) -> Result<(), Memory>
+    ensures { OnOk result (text.new ≡ text.old ++ limit_text what.now count most) }
+{
+    limit_text(text, what, u128::from(count), most)
+}
+
 fn build_text(text: &mut Text, error: &BuildError) -> Result<(), Memory>
     ensures { OnOk result (text.new ≡ text.old ++ build_text error.now) }
 {
@@ -256,9 +263,9 @@ fn kind_text(text: &mut Text, refusal: &Refusal) -> Result<(), Memory>
 {
     match refusal {
         Refusal::Words(fault) => words_text(text, fault),
-        Refusal::LefBytes { read } => limit_text(text, b"lef-bytes", u128::from(*read), LEF_MOST),
-        Refusal::DefBytes { read } => limit_text(text, b"def-bytes", u128::from(*read), DEF_MOST),
-        Refusal::GuideBytes { read } => limit_text(text, b"guide-bytes", u128::from(*read), GUIDE_MOST),
+        Refusal::LefBytes { read } => bytes_text(text, b"lef-bytes", *read, LEF_MOST),
+        Refusal::DefBytes { read } => bytes_text(text, b"def-bytes", *read, DEF_MOST),
+        Refusal::GuideBytes { read } => bytes_text(text, b"guide-bytes", *read, GUIDE_MOST),
         Refusal::Lef(error) => lef_text(text, error),
         Refusal::Def(error) => def_text(text, error),
         Refusal::Guide(error) => guide_text(text, error),

@@ -10,7 +10,10 @@ returns-in_err-units-clause-refusal c =
     rw (p.1, p.2) (def_refusal c.args.lef.now c.args.def.now _ (λ ne. inl (units.refused ne)))
 
 pub read_lef_tokens-requires : goal.read_lef_tokens-requires
-read_lef_tokens-requires c = rw (c.as_slice-3.ensures, c.as_slice-4.ensures) c.requires.lef.cut
+read_lef_tokens-requires c = record {
+  text = rw c.as_slice-3.ensures c.requires.lef.size;
+  tokens = rw (c.as_slice-3.ensures, c.as_slice-4.ensures) c.requires.lef.cut;
+}
 
 pub returns-in_err-read_lef_tokens-clause-refusal : goal.returns-in_err-read_lef_tokens-clause-refusal
 returns-in_err-read_lef_tokens-clause-refusal c =
