@@ -1,5 +1,5 @@
 -- The strokes of a net's standing walks: they can be written in plain words, and these be read.
-use Rattle.std.proofs.Common.{◌≡◌, ◌≢◌, ℕ, ◌^◌, ◌<◌, ◌==◌, List, [], ◌∷◌, ◌++◌, true, false, get_or, Option, Some, IsTrue, All, Any, AllPairs, sym, ap, subst, ◌∙◌, flat_map, length, arith, lit≤}
+use Rattle.std.proofs.Common.{◌≡◌, ◌≢◌, ℕ, ◌^◌, ◌<◌, ◌==◌, List, [], ◌∷◌, ◌++◌, true, false, get_or, Option, Some, IsTrue, All, Any, sym, ap, subst, ◌∙◌, flat_map, length, arith, lit≤}
 use Rattle.std.specs.Prelude.{slice_get, unwrap_or, option_map}
 use Rattle.std.specs.List.{list_any}
 use Rattle.std.proofs.lemmas.List.Elements.{All-nil, All-cons, All-head, All-tail, All-weaker}
