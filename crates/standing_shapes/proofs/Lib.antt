@@ -1,0 +1,3 @@
+mod Counts
+mod SameShape
+pub mod StandingLemmas
