@@ -2,6 +2,7 @@
 ghost use Rattle.std.specs.Prelude.{◌≡◌, ℕ, ◌<◌, ◌≤◌, ◌^◌, length, All, Contains};
 ghost use Rattle.std.specs.Int.{int_gap, int_max, int_min};
 ghost use Rattle.future_cost.specs.Under.{IsHullOf, outside, levels_outside, under, widened};
+ghost use Rattle.future_cost.specs.Turns.{is_off, misses, turns};
 ghost use Rattle.future_cost.specs.Laws.{Falls, FallsInArenas, IsNear, IsSmall};
 
 use rt_base::{Span, Vertex};
@@ -47,6 +48,13 @@ fn spans(v: &Vertex) -> (Span, Span)
         hi: v.point.y,
     };
     (x, y)
+}
+
+/// Whether a range doesn't hold z.
+fn is_off(range: Span, z: i64) -> bool
+    ensures { result ≡ is_off range z }
+{
+    z < range.lo || range.hi < z
 }
 
 impl Bound {
@@ -105,5 +113,33 @@ impl Bound {
         let below = self.bottom.saturating_sub(v.level) as u64;
         let above = v.level.saturating_sub(self.top) as u64;
         x + y + self.via * (below + above)
+    }
+
+    /// Whether the targets' range across a level's tracks, which run in x or not, doesn't hold the
+    /// line that a vertex is on.
+    fn misses(&self, v: &Vertex, horizontal: bool) -> bool
+        ensures { result ≡ misses self.now horizontal v.now }
+    {
+        if horizontal {
+            is_off(self.y, v.point.y)
+        } else {
+            is_off(self.x, v.point.x)
+        }
+    }
+
+    /// How many vias a walk from a vertex to the targets needs beside those between its level and
+    /// theirs, where the tracks of its level run in x or not: on a level of theirs, where none of them
+    /// is on its line, it has to leave the level, and to come back where it is their only one. Takes no
+    /// memory.
+    pub fn turns(&self, v: &Vertex, horizontal: bool) -> u64
+        ensures { result ≡ turns self.now horizontal v.now }
+    {
+        if v.level < self.bottom || self.top < v.level {
+            return 0;
+        }
+        if !self.misses(v, horizontal) {
+            return 0;
+        }
+        if self.bottom == self.top { 2 } else { 1 }
     }
 }
