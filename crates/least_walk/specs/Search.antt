@@ -1,127 +1,125 @@
-use Rattle.std.specs.Prelude.{◌≡◌, ◌⊎◌, ℕ, ◌+◌, ◌-◌, ◌*◌, ◌≤◌, ◌<◌, ◌^◌, List, [], ◌∷◌, ◌++◌, slice_get, unwrap_or, option_map, Some, None, Option, Contains, length, sum_by, MatchOption, IfSome}
-use Rattle.least_walk.specs.declared.graph.Link.{Link}
+use Rattle.std.specs.Prelude.{◌≡◌, ◌≢◌, ◌⊎◌, ℕ, ◌+◌, ◌≤◌, ◌<◌, Bool, true, false, List, [], ◌∷◌, ◌++◌, slice_get, slice_set, unwrap_or, Some, None, Option, Contains, length}
+use Rattle.rt_base.specs.declared.walk.Vertex.{Vertex}
+use Rattle.rt_base.specs.declared.walk.Edge.{Edge}
 use Rattle.least_walk.specs.declared.graph.Stop.{Stop}
 use Rattle.least_walk.specs.declared.label.Label.{Label}
-use Rattle.least_walk.specs.declared.label.Origin.{Origin}
-use Rattle.least_walk.specs.declared.label.Origin.TheVariants.{Source, Link as Over}
 use Rattle.least_walk.specs.declared.label.Search.{Search}
-use Rattle.least_walk.specs.declared.label.Best.{Best}
-use Rattle.least_walk.specs.Walks.{Graph, links_from, IsPath, end_of, cost_of}
+use Rattle.least_walk.specs.Known.{number_of, Sets}
 use Rattle.least_walk.specs.Queue.{IsWithOneMore}
+use Rattle.least_walk.specs.Labels.{label_at, vertex_at, dist_at, key_at, AreLabels}
 
-abbrev pub vertex_at : List Label → ℕ → ℕ
-vertex_at ls k = unwrap_or (option_map (λ (x : Label). x.vertex) (slice_get ls k)) 0
+-- label k is settled
+abbrev pub IsSettled : List Bool → ℕ → Type 0
+IsSettled flags k = slice_get flags k ≡ Some true
 
-abbrev pub dist_at : List Label → ℕ → ℕ
-dist_at ls k = unwrap_or (option_map (λ (x : Label). x.dist) (slice_get ls k)) 0
+-- label k is the least of its vertex, and isn't settled
+abbrev pub IsFresh : List Label → List Bool → List (Vertex × ℕ) → ℕ → Type 0
+IsFresh ls flags known k = (number_of known (vertex_at ls k) ≡ Some k) × (slice_get flags k ≡ Some false)
 
--- label k with this origin stands at v with distance d
-abbrev pub FromOrigin : Graph → List Stop → List Label → ℕ → ℕ → ℕ → Origin → Type 0
-FromOrigin g sources ls k v d (Source s) = Contains sources s × (v ≡ s.vertex) × (d ≡ s.cost)
-FromOrigin g sources ls k v d (Over from l) = (from < k) × Contains (links_from g (vertex_at ls from)) l × (v ≡ l.to) × (d ≡ dist_at ls from + l.cost)
-
--- vertex v is settled by label k
-abbrev pub SettledBy : List (Option ℕ) → ℕ → ℕ → Type 0
-SettledBy st v k = slice_get st v ≡ Some (Some k)
-
-abbrev pub one_if_some : Option ℕ → ℕ
-one_if_some None = 0
-one_if_some (Some k) = 1
-
-abbrev pub settled_count : List (Option ℕ) → ℕ
-settled_count st = sum_by one_if_some st
-
--- the dearest link or stop
-abbrev pub most_cost : ℕ
-most_cost = 2 ^ 64 - 1
-
--- a label at v of at most c waits or settles v
-pub record IsCovered (ls : List Label) (st : List (Option ℕ)) (q : List (ℕ × ℕ)) (v c : ℕ) : Type 0 where
+-- v has a label of distance c at most
+pub record IsCovered (ls : List Label) (known : List (Vertex × ℕ)) (v : Vertex) (c : ℕ) : Type 0 where
   pub number : ℕ
-  pub in_labels : number < length ls
-  pub at_vertex : vertex_at ls number ≡ v
+  pub is_number : number_of known v ≡ Some number
   pub cheap : dist_at ls number ≤ c
-  pub known : SettledBy st v number ⊎ Contains q (dist_at ls number, number)
 
-abbrev pub Covered : Search → ℕ → ℕ → Type 0
-Covered s v c = IsCovered s.labels.items s.settled.items s.queue v c
+-- the least label of each vertex is settled or waits, and what waits has no lesser key than what is settled
+pub record AreFiled (ls : List Label) (flags : List Bool) (known : List (Vertex × ℕ)) (q : List (ℕ × ℕ)) : Type 0 where
+  pub count : length flags ≡ length ls
+  pub queued : (d k : ℕ) → Contains q (d, k) → (k < length ls) × (d ≡ key_at ls k)
+  pub mapped : (v : Vertex) (n : ℕ) → number_of known v ≡ Some n → (n < length ls) × (vertex_at ls n ≡ v) × (IsSettled flags n ⊎ Contains q (key_at ls n, n))
+  pub kept : (k : ℕ) → IsSettled flags k → number_of known (vertex_at ls k) ≡ Some k
+  pub ordered : (j d k : ℕ) → IsSettled flags j → Contains q (d, k) → key_at ls j ≤ d
 
-pub record IsState (g : Graph) (sources : List Stop) (ls : List Label) (st : List (Option ℕ)) (q : List (ℕ × ℕ)) : Type 0 where
-  pub width : length st ≡ length g
-  pub labels : (k : ℕ) (x : Label) → slice_get ls k ≡ Some x → FromOrigin g sources ls k x.vertex x.dist x.origin
-  pub in_graph : (k : ℕ) → k < length ls → vertex_at ls k < length g
-  pub settled : (v k : ℕ) → SettledBy st v k → (k < length ls) × (vertex_at ls k ≡ v)
-  pub queued : (d k : ℕ) → Contains q (d, k) → (k < length ls) × (dist_at ls k ≡ d)
-  pub ordered : (v k d j : ℕ) → SettledBy st v k → Contains q (d, j) → dist_at ls k ≤ d
-  pub bound : (d k : ℕ) → Contains q (d, k) → d ≤ most_cost * (settled_count st + 1)
-  pub settled_bound : (v k : ℕ) → SettledBy st v k → dist_at ls k ≤ most_cost * settled_count st
+-- the labels of a search are filed in this way
+abbrev pub IsFiled : Search → Type 0
+IsFiled s = AreFiled s.labels.items s.settled.items s.known s.queue
 
+-- new is old with a label at the end
 pub record Adds (old new : Search) (label : Label) : Type 0 where
   pub labels : new.labels.items ≡ old.labels.items ++ label ∷ []
+  pub settled : new.settled.items ≡ old.settled.items ++ false ∷ []
+  pub known : Sets label.vertex (length old.labels.items) old.known new.known
+  pub queue : IsWithOneMore (label.key, length old.labels.items) old.queue new.queue
+
+-- the old labels are there, and what was settled is settled
+pub record Extends (ls ms : List Label) (flags later : List Bool) : Type 0 where
+  pub longer : length ls ≤ length ms
+  pub same : (k : ℕ) → k < length ls → label_at ms k ≡ label_at ls k
+  pub settled : (k : ℕ) → IsSettled later k → IsSettled flags k
+  pub stays : (k : ℕ) → IsSettled flags k → IsSettled later k
+
+-- the old labels of a search are there, and what was settled is settled
+abbrev pub Keeps : Search → Search → Type 0
+Keeps old new = Extends old.labels.items new.labels.items old.settled.items new.settled.items
+
+-- label k is settled now, of least key among those that waited
+pub record Settles (old new : Search) (k : ℕ) : Type 0 where
+  pub labels : new.labels.items ≡ old.labels.items
+  pub known : new.known ≡ old.known
+  pub in_labels : k < length old.labels.items
+  pub fresh : IsFresh old.labels.items old.settled.items old.known k
+  pub settled : new.settled.items ≡ slice_set old.settled.items k true
+  pub first : (d j : ℕ) → Contains new.queue (d, j) → key_at old.labels.items k ≤ d
+  pub top : (j : ℕ) → IsSettled old.settled.items j → key_at old.labels.items j ≤ key_at old.labels.items k
+
+-- only the queue may differ
+pub record OnlyQueue (old new : Search) : Type 0 where
+  pub labels : new.labels.items ≡ old.labels.items
+  pub known : new.known ≡ old.known
   pub settled : new.settled.items ≡ old.settled.items
-  pub queue : IsWithOneMore (label.dist, length old.labels.items) old.queue new.queue
 
--- what relaxing the links of a settled vertex takes
-pub record CanRelax (g : Graph) (sources : List Stop) (s : Search) (v k : ℕ) : Type 0 where
-  pub state : IsState g sources s.labels.items s.settled.items s.queue
-  pub settled : SettledBy s.settled.items v k
-  pub first : (d j : ℕ) → Contains s.queue (d, j) → dist_at s.labels.items k ≤ d
-  pub top : (u j : ℕ) → SettledBy s.settled.items u j → dist_at s.labels.items j ≤ dist_at s.labels.items k
+-- whether a vertex is settled
+abbrev pub is_settled_at : List Bool → Option ℕ → Bool
+is_settled_at flags None = false
+is_settled_at flags (Some n) = unwrap_or (slice_get flags n) false
 
--- the links of the row are covered, and what was covered still is
-pub record Relaxed (g : Graph) (sources : List Stop) (old new : Search) (row : List Link) (dist : ℕ) : Type 0 where
-  pub state : IsState g sources new.labels.items new.settled.items new.queue
-  pub settled : new.settled.items ≡ old.settled.items
-  pub longer : length old.labels.items ≤ length new.labels.items
-  pub same : (k : ℕ) → k < length old.labels.items → slice_get new.labels.items k ≡ slice_get old.labels.items k
-  pub keeps : (v c : ℕ) → Covered old v c → Covered new v c
-  pub covers : (l : Link) → Contains row l → Covered new l.to (dist + l.cost)
-  pub above : (d j : ℕ) → Contains new.queue (d, j) → dist ≤ d
-  pub few : length new.queue ≤ length old.queue + length row
+-- one more, if it isn't settled
+abbrev pub one_more_if_open : Bool → ℕ → ℕ
+one_more_if_open true n = n
+one_more_if_open false n = n + 1
 
--- each source and each link from a settled vertex is covered
-pub record IsSound (g : Graph) (sources : List Stop) (s : Search) : Type 0 where
-  pub state : IsState g sources s.labels.items s.settled.items s.queue
-  pub sources_in : (x : Stop) → Contains sources x → Covered s x.vertex x.cost
-  pub links_in : (v k : ℕ) (l : Link) → SettledBy s.settled.items v k → Contains (links_from g v) l → Covered s l.to (dist_at s.labels.items k + l.cost)
+-- how many vertices aren't settled
+abbrev pub open_count : List Bool → List (Vertex × ℕ) → List Vertex → ℕ
+open_count flags known [] = 0
+open_count flags known (v ∷ vs) = one_more_if_open (is_settled_at flags (number_of known v)) (open_count flags known vs)
 
--- how many links lead from vertices that aren't settled
-abbrev pub open_links : Graph → List (Option ℕ) → ℕ
-open_links [] st = 0
-open_links (row ∷ g) [] = 0
-open_links (row ∷ g) (None ∷ st) = length row + open_links g st
-open_links (row ∷ g) (Some k ∷ st) = open_links g st
+-- each source leads to a label of no greater distance
+abbrev pub AreSourcesIn : List Label → List (Vertex × ℕ) → List Stop → Type 0
+AreSourcesIn ls known sources = (i : ℕ) (x : Stop) → slice_get sources i ≡ Some x → IsCovered ls known x.entry.vertex x.cost
 
--- how many labels are left to take out, at most
-abbrev pub work_left : Graph → Search → ℕ
-work_left g s = length s.queue + open_links g s.settled.items
+-- each source and each edge from a settled vertex leads to a label of no greater distance
+pub record AreSound (vertices : List Vertex) (HasEdge : Vertex → Edge → ℕ → Type 0) (bound_of : Vertex → ℕ) (sources : List Stop) (ls : List Label) (flags : List Bool) (known : List (Vertex × ℕ)) (q : List (ℕ × ℕ)) : Type 0 where
+  pub filed : AreFiled ls flags known q
+  pub labels : AreLabels vertices HasEdge bound_of sources ls
+  pub sources_in : AreSourcesIn ls known sources
+  pub edges_in : (k : ℕ) (e : Edge) (c : ℕ) → IsSettled flags k → HasEdge (vertex_at ls k) e c → IsCovered ls known e.to (dist_at ls k + c)
 
--- a settled target than which none is cheaper to finish at
-pub record IsBest (s : Search) (targets : List Stop) (cost number : ℕ) (t : Stop) : Type 0 where
-  pub has : Contains targets t
-  pub settled : SettledBy s.settled.items t.vertex number
-  pub sum : cost ≡ dist_at s.labels.items number + t.cost
-  pub least : (u : Stop) (k : ℕ) → Contains targets u → SettledBy s.settled.items u.vertex k → cost ≤ dist_at s.labels.items k + u.cost
+-- the labels of a search are sound
+abbrev pub IsSound : List Vertex → (Vertex → Edge → ℕ → Type 0) → (Vertex → ℕ) → List Stop → Search → Type 0
+IsSound vertices HasEdge bound_of sources s = AreSound vertices HasEdge bound_of sources s.labels.items s.settled.items s.known s.queue
 
-abbrev pub NoneSettled : Search → List Stop → Type 0
-NoneSettled s targets = (u : Stop) (k : ℕ) → Contains targets u → SettledBy s.settled.items u.vertex k → ⊥
+-- the same but for the edges from label k, which was settled last and of which these are done
+pub record AreMid (vertices : List Vertex) (HasEdge : Vertex → Edge → ℕ → Type 0) (bound_of : Vertex → ℕ) (sources : List Stop) (ls : List Label) (flags : List Bool) (known : List (Vertex × ℕ)) (q : List (ℕ × ℕ)) (k : ℕ) (done : List Edge) : Type 0 where
+  pub filed : AreFiled ls flags known q
+  pub labels : AreLabels vertices HasEdge bound_of sources ls
+  pub sources_in : AreSourcesIn ls known sources
+  pub settled : IsSettled flags k
+  pub first : (d j : ℕ) → Contains q (d, j) → key_at ls k ≤ d
+  pub top : (j : ℕ) → IsSettled flags j → key_at ls j ≤ key_at ls k
+  pub edges_in : (j : ℕ) (e : Edge) (c : ℕ) → IsSettled flags j → j ≢ k → HasEdge (vertex_at ls j) e c → IsCovered ls known e.to (dist_at ls j + c)
+  pub done_in : (e : Edge) (c : ℕ) → Contains done e → HasEdge (vertex_at ls k) e c → IsCovered ls known e.to (dist_at ls k + c)
 
--- the best of the targets, or none is settled
-abbrev pub IsBestOrNone : Search → List Stop → Option Best → Type 0
-IsBestOrNone s targets best = MatchOption best (NoneSettled s targets) (λ (b : Best). IsBest s targets b.cost b.number b.target)
+-- the labels of a search are so
+abbrev pub IsMid : List Vertex → (Vertex → Edge → ℕ → Type 0) → (Vertex → ℕ) → List Stop → Search → ℕ → List Edge → Type 0
+IsMid vertices HasEdge bound_of sources s k done = AreMid vertices HasEdge bound_of sources s.labels.items s.settled.items s.known s.queue k done
 
--- each label has its origin
-abbrev pub AreLabels : Graph → List Stop → List Label → Type 0
-AreLabels g sources ls = (k : ℕ) (x : Label) → slice_get ls k ≡ Some x → FromOrigin g sources ls k x.vertex x.dist x.origin
+-- nothing is settled, and the first i sources lead to labels
+pub record AreStarted (vertices : List Vertex) (HasEdge : Vertex → Edge → ℕ → Type 0) (bound_of : Vertex → ℕ) (sources : List Stop) (i : ℕ) (ls : List Label) (flags : List Bool) (known : List (Vertex × ℕ)) (q : List (ℕ × ℕ)) : Type 0 where
+  pub filed : AreFiled ls flags known q
+  pub labels : AreLabels vertices HasEdge bound_of sources ls
+  pub none_settled : (k : ℕ) → IsSettled flags k → ⊥
+  pub sources_in : (j : ℕ) (x : Stop) → j < i → slice_get sources j ≡ Some x → IsCovered ls known x.entry.vertex x.cost
 
--- links from v to the vertex of label k, which with c cost as much as it says
-pub record LeadsTo (g : Graph) (ls : List Label) (k v c : ℕ) (links : List Link) : Type 0 where
-  pub path : IsPath g v links
-  pub arrives : end_of v links ≡ vertex_at ls k
-  pub sum : c + cost_of links ≡ dist_at ls k
-
--- one of both, and no dearer than either
-pub record IsCheaper (best : Option Best) (next result : Best) : Type 0 where
-  pub from : (result ≡ next) ⊎ (best ≡ Some result)
-  pub no_dearer : result.cost ≤ next.cost
-  pub no_dearer_than_best : IfSome best (λ (b : Best). result.cost ≤ b.cost)
+-- a search has started so
+abbrev pub IsStarted : List Vertex → (Vertex → Edge → ℕ → Type 0) → (Vertex → ℕ) → List Stop → ℕ → Search → Type 0
+IsStarted vertices HasEdge bound_of sources i s = AreStarted vertices HasEdge bound_of sources i s.labels.items s.settled.items s.known s.queue

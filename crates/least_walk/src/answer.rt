@@ -1,103 +1,70 @@
 //! The answer of a search.
-ghost use Rattle.std.specs.Prelude.{◌<◌, length, IfOk, IfSome, IfNone, Contains};
-ghost use Rattle.least_walk.specs.Walks.{IsGraph, AreStops, IsLeast, HasNone};
-ghost use Rattle.least_walk.specs.Search.{IsSound, IsBestOrNone, IsCheaper, AreLabels, LeadsTo};
+ghost use Rattle.std.specs.Prelude.{◌<◌, length, IfOk, IfSome, IfNone};
+ghost use Rattle.least_walk.specs.Routes.{IsGraph, AreStarts, AreEnds, IsLeastRoute, HasNoRoute};
+ghost use Rattle.least_walk.specs.Labels.{OriginsFall, IsTrailFrom};
 
-use crate::graph::{Link, Stop, Walk};
-use crate::label::{Best, Label, Origin, Search};
-use crate::search::explore;
-use rt_base::{Memory, Seq};
+use crate::ends::note_ends;
+use crate::graph::{Graph, Stop};
+use crate::label::{Label, Origin};
+use crate::tables::Tables;
+use rt_base::{Edge, Memory, Seq, Walk};
 use std::alloc::Global;
 
-/// The cheaper of both.
-fn cheaper(best: Option<Best>, next: Best) -> Best
-    ensures { IsCheaper best next result }
-{
-    match best {
-        Some(b) if b.cost <= next.cost => b,
-        _ => next,
-    }
-}
-
-/// The target that is cheapest to finish at.
-fn best(graph: &[Seq<Link>], sources: &[Stop], search: &Search, targets: &[Stop]) -> Option<Best>
-    requires sound { IsSound graph.now sources.now search.now }
-    requires targets { AreStops graph.now targets.now }
-    ensures { IsBestOrNone search.now targets.now result }
-{
-    let mut best: Option<Best> = None;
-    for target in targets {
-        let target = *target;
-        if let Some(number) = search.settled[target.vertex] {
-            let cost = search.labels[number].dist + target.cost as u128;
-            best = Some(cheaper(
-                best,
-                Best {
-                    cost,
-                    number,
-                    target,
-                },
-            ));
-        }
-    }
-    best
-}
-
-/// The walk that a label stands for.
-fn trace(
-    alloc: Global,
-    graph: &[Seq<Link>],
-    sources: &[Stop],
-    labels: &[Label],
-    number: usize,
-) -> Result<(Stop, Seq<Link>), Memory>
-    requires labels { AreLabels graph.now sources.now labels.now }
+/// The number of the source that a label was reached from, and the edges from there to its vertex.
+fn trace(alloc: Global, labels: &[Label], number: usize) -> Result<(usize, Seq<Edge>), Memory>
+    requires falls { OriginsFall labels.now }
     requires number { number < length labels.now }
-    ensures start { IfOk result (λ w. Contains sources.now w.0) }
-    ensures links { IfOk result (λ w. LeadsTo graph.now labels.now number w.0.vertex w.0.cost w.1) }
+    ensures { IfOk result (λ w. IsTrailFrom labels.now w.0 w.1 number) }
 {
-    let mut links = Vec::new(alloc);
+    let mut edges = Vec::new(alloc);
     let mut at = number;
     loop {
         match labels[at].origin {
-            Origin::Source(start) => {
-                links.reverse();
-                return Ok((start, Seq::from_vec(links)));
+            Origin::Source(place) => {
+                edges.reverse();
+                return Ok((place, Seq::from_vec(edges)));
             }
-            Origin::Link(from, link) => {
-                links.push(link)?;
-                at = from;
+            Origin::After(before, kind) => {
+                edges.push(Edge {
+                    kind,
+                    to: labels[at].vertex,
+                })?;
+                at = before;
             }
         }
     }
 }
 
 /// A walk of least cost from a source to a target, or `None` where no walk leads from any source to
-/// any target. Row `v` of the graph has the links from vertex `v`. A walk costs what its start, its
-/// links and its finish cost together; it may come back to a vertex, and it may have no link. Its
-/// links and stops are those that were given, tags included. Where several walks cost least, any of
-/// them is answered. Takes time in O(L log L) for L links and stops. `Memory` comes for want of
-/// memory alone.
-pub fn least_walk(
+/// any target. A walk costs what its start, its edges and its finish cost together; it may have no
+/// edge. Where several walks cost least, any of them is answered. The tables may be any, before and
+/// after. `Memory` comes for want of memory alone.
+pub fn least_walk<G: Graph>(
     alloc: Global,
-    graph: &[Seq<Link>],
+    graph: &G,
     sources: &[Stop],
     targets: &[Stop],
+    tables: &mut Tables,
 ) -> Result<Option<Walk>, Memory>
-    requires graph { IsGraph graph.now }
-    requires sources { AreStops graph.now sources.now }
-    requires targets { AreStops graph.now targets.now }
-    ensures least { IfOk result (λ answer. IfSome answer (IsLeast graph.now sources.now targets.now)) }
-    ensures none { IfOk result (λ answer. IfNone answer (HasNone graph.now sources.now targets.now)) }
+    requires whole { G.IsWhole graph.now }
+    requires graph { IsGraph (G.vertices graph.now) (G.HasEdge graph.now) (G.bound_of graph.now) }
+    requires sources { AreStarts (G.vertices graph.now) sources.now }
+    requires targets { AreEnds (G.vertices graph.now) (G.bound_of graph.now) targets.now }
+    ensures least { IfOk result (λ answer. IfSome answer (IsLeastRoute (G.HasEdge graph.now) sources.now targets.now)) }
+    ensures none { IfOk result (λ answer. IfNone answer (HasNoRoute (G.HasEdge graph.now) sources.now targets.now)) }
 {
-    let search = explore(alloc, graph, sources)?;
-    let Some(best) = best(graph, sources, &search, targets) else {
+    note_ends(&mut tables.ends, targets)?;
+    tables.search.start(graph, sources)?;
+    let best = tables
+        .search
+        .run(graph, sources, targets, &tables.ends, &mut tables.edges)?;
+    let Some(best) = best else {
         return Ok(None);
     };
-    let (start, links) = trace(alloc, graph, sources, search.labels.as_slice(), best.number)?;
+    let (place, edges) = trace(alloc, tables.search.labels.as_slice(), best.number)?;
     Ok(Some(Walk {
-        start,
-        links,
-        finish: best.target,
+        start: sources[place].entry,
+        edges,
+        finish: best.target.entry,
     }))
 }

@@ -1,14 +1,18 @@
-//! A walk of least cost in a finite graph that is given by its rows of links.
+//! A route of least cost in a graph that is given by a trait, sought towards its targets.
 #![tactic(auto)]
 
 mod answer;
+mod ends;
+mod explore;
 mod graph;
+mod known;
 mod label;
 mod queue;
 mod search;
-
-pub use answer::least_walk;
-pub use graph::{Link, Stop, Walk};
-
+mod tables;
 #[cfg(test)]
 mod tests;
+
+pub use answer::least_walk;
+pub use graph::{Graph, Stop};
+pub use tables::Tables;

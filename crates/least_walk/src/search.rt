@@ -1,96 +1,107 @@
-//! Labels, and the queue of those whose vertex may not be settled.
-ghost use Rattle.std.specs.Prelude.{◌≡◌, ◌<◌, OnOk, IfOk, []};
+//! Labels, and the queue of those that may not be settled.
+ghost use Rattle.std.specs.Prelude.{◌≡◌, ◌≤◌, ◌<◌, ◌↔◌, length, IsTrue, IfSome, IfNone, OnOk, option_map, []};
 ghost use Rattle.std.specs.Bool.{OnFalse, OnTrue};
-ghost use Rattle.least_walk.specs.Walks.{links_from, IsGraph, AreStops};
-ghost use Rattle.least_walk.specs.Search.{Adds, CanRelax, Relaxed, IsSound, dist_at, work_left};
+ghost use Rattle.least_walk.specs.Queue.{NoneBelow};
+ghost use Rattle.least_walk.specs.Labels.{dist_at};
+ghost use Rattle.least_walk.specs.Search.{Adds, IsFiled, IsFresh, IsSettled, OnlyQueue, Settles};
 
-use crate::graph::{Link, Stop};
-use crate::label::{Label, Origin, Search};
+use crate::known::Known;
+use crate::label::{Label, Search};
 use crate::queue::Queue;
-use rt_base::{Memory, Seq};
+use rt_base::Memory;
 use std::alloc::Global;
 
 impl Search {
+    /// No labels. Takes no memory.
+    pub fn new(alloc: Global) -> Search {
+        Search {
+            labels: Vec::new(alloc),
+            settled: Vec::new(alloc),
+            known: Known::new(alloc),
+            queue: Queue::new(alloc),
+        }
+    }
+
+    /// Takes all labels away, and keeps the memory.
+    pub fn clear(&mut self)
+        ensures labels { self.new.labels.items ≡ [] }
+        ensures settled { self.new.settled.items ≡ [] }
+        ensures known { self.new.known ≡ [] }
+        ensures queue { self.new.queue ≡ [] }
+    {
+        self.labels.clear();
+        self.settled.clear();
+        self.known.clear();
+        self.queue.clear();
+    }
+
     /// Adds a label.
     pub fn add(&mut self, label: Label) -> Result<(), Memory>
-        ensures ok { OnOk result (Adds self.old self.new label) }
+        ensures { OnOk result (Adds self.old self.new label) }
     {
         let number = self.labels.len();
         self.labels.push(label)?;
-        self.queue.push(label.dist, number)?;
+        self.settled.push(false)?;
+        self.known.set(label.vertex, number)?;
+        self.queue.push(label.key, number)?;
         Ok(())
     }
 
-    /// Adds a label for each link from a vertex that is settled at this distance to one that is not
-    /// settled.
-    pub fn relax(
-        &mut self,
-        graph: &[Seq<Link>],
-        sources: &[Stop],
-        vertex: usize,
-        number: usize,
-        dist: u128,
-    ) -> Result<(), Memory>
-        requires can { CanRelax graph.now sources.now self.old vertex number }
-        requires dist { dist ≡ dist_at self.old.labels.items number }
-        requires graph { IsGraph graph.now }
-        ensures ok { OnOk result (Relaxed graph.now sources.now self.old self.new (links_from graph.now vertex) dist) }
+    /// Whether this distance is less than that of the label that was met, if there is one.
+    pub fn is_nearer(&self, met: Option<usize>, dist: u128) -> bool
+        requires { IfSome met (λ n. n < length self.now.labels.items) }
+        ensures nearer { OnTrue result (IfSome met (λ n. dist < dist_at self.now.labels.items n)) }
+        ensures not_nearer { OnFalse result ((n : _) × (met ≡ Some n) × (dist_at self.now.labels.items n ≤ dist)) }
     {
-        let row = graph[vertex].as_slice();
-        for link in row {
-            let link = *link;
-            if self.settled[link.to].is_some() {
-                continue;
+        match met {
+            Some(number) => dist < self.labels[number].dist,
+            None => true,
+        }
+    }
+
+    /// Whether there is a label and it is settled.
+    pub fn is_settled(&self, met: Option<usize>) -> bool
+        requires { IfSome met (λ n. n < length self.now.settled.items) }
+        ensures settled { OnTrue result ((n : _) × (met ≡ Some n) × IsSettled self.now.settled.items n) }
+        ensures not_settled { OnFalse result ((n : _) → met ≡ Some n → IsSettled self.now.settled.items n → ⊥) }
+    {
+        match met {
+            Some(number) => self.settled[number],
+            None => false,
+        }
+    }
+
+    /// Whether a label is the least of its vertex and isn't settled.
+    fn is_fresh(&self, number: usize) -> bool
+        requires labels { number < length self.now.labels.items }
+        requires flags { number < length self.now.settled.items }
+        ensures fresh { OnTrue result (IsFresh self.now.labels.items self.now.settled.items self.now.known number) }
+        ensures stale { OnFalse result (IsFresh self.now.labels.items self.now.settled.items self.now.known number → ⊥) }
+    {
+        if self.settled[number] {
+            return false;
+        }
+        match self.known.get(self.labels[number].vertex) {
+            Some(least) => least == number,
+            None => false,
+        }
+    }
+
+    /// Settles a label of least key among those that are the least of their vertices and wait, where
+    /// that key is below the limit.
+    pub fn settle_next(&mut self, limit: Option<u128>) -> Option<usize>
+        requires filed { IsFiled self.old }
+        ensures filed { IsFiled self.new }
+        ensures some { IfSome result (Settles self.old self.new) }
+        ensures none { IfNone result (NoneBelow limit self.new.queue) }
+        ensures only { IfNone result (OnlyQueue self.old self.new) }
+    {
+        loop {
+            let (_, number) = self.queue.pop_below(limit)?;
+            if self.is_fresh(number) {
+                self.settled[number] = true;
+                return Some(number);
             }
-            self.add(Label {
-                vertex: link.to,
-                dist: dist + link.cost as u128,
-                origin: Origin::Link(number, link),
-            })?;
         }
-        Ok(())
     }
-
-    /// Takes a label of least distance out of the queue, and settles its vertex unless it is settled.
-    /// False where the queue is empty.
-    pub fn settle_next(&mut self, graph: &[Seq<Link>], sources: &[Stop]) -> Result<bool, Memory>
-        requires sound { IsSound graph.now sources.now self.old }
-        requires graph { IsGraph graph.now }
-        ensures sound { OnOk result (IsSound graph.now sources.now self.new) }
-        ensures more { IfOk result (λ more. OnTrue more (work_left graph.now self.new < work_left graph.now self.old)) }
-        ensures done { IfOk result (λ more. OnFalse more (self.new.queue ≡ [])) }
-    {
-        let Some((dist, number)) = self.queue.pop() else {
-            return Ok(false);
-        };
-        let vertex = self.labels[number].vertex;
-        if self.settled[vertex].is_none() {
-            self.settled[vertex] = Some(number);
-            self.relax(graph, sources, vertex, number, dist)?;
-        }
-        Ok(true)
-    }
-}
-
-/// Labels each vertex that a source is joined to.
-pub fn explore(alloc: Global, graph: &[Seq<Link>], sources: &[Stop]) -> Result<Search, Memory>
-    requires graph { IsGraph graph.now }
-    requires sources { AreStops graph.now sources.now }
-    ensures sound { IfOk result (λ s. IsSound graph.now sources.now s) }
-    ensures done { IfOk result (λ s. s.queue ≡ []) }
-{
-    let mut search = Search {
-        labels: Vec::new(alloc),
-        settled: vec![in alloc; None; graph.len()]?,
-        queue: Queue::new(alloc),
-    };
-    for source in sources {
-        search.add(Label {
-            vertex: source.vertex,
-            dist: source.cost as u128,
-            origin: Origin::Source(*source),
-        })?;
-    }
-    while search.settle_next(graph, sources)? {}
-    Ok(search)
 }

@@ -1,5 +1,5 @@
 -- Lists of entries: those of pins and of wires are exactly those at which walks start or finish.
-use Rattle.std.proofs.Common.{◌≡◌, ◌⊎◌, ⊎_elim, inl, inr, ℕ, zero, suc, ◌+◌, ◌<◌, List, [], ◌∷◌, ◌++◌, Bool, true, false, cond, length, map, get_or, drop, Some, option_map, slice_get, unwrap_or, All, Any, Contains, refl, sym, subst, ap, ◌∙◌, arith}
+use Rattle.std.proofs.Common.{◌≡◌, ◌⊎◌, ⊎_elim, inl, inr, ℕ, zero, suc, ◌+◌, ◌<◌, ◌≤◌, List, [], ◌∷◌, ◌++◌, Bool, true, false, cond, length, map, get_or, drop, Some, option_map, slice_get, unwrap_or, All, Any, Contains, refl, sym, subst, ap, ◌∙◌, arith}
 use Rattle.std.proofs.lemmas.List.{drop_more, append_assoc}
 use Rattle.std.proofs.lemmas.List.Elements.{Contains-append_left, Contains-append_right, Contains-append_cases}
 use Rattle.std.proofs.lemmas.Option.{same_Some}
@@ -171,3 +171,10 @@ finishes_are d s n entries is = record {
   has = λ e h. subst (λ es. Contains es e) (sym is) (pin_entries-has false (net_state s n).joined (pins_of d n) e h);
   fit = λ e h. let w = pin_entries-only false (net_state s n).joined (pins_of d n) e (subst (λ es. Contains es e) is h) in inl (w.0, w.2);
 }
+
+-- nothing is left past the end
+pub drop_past : {X : Type 0} (i : ℕ) (xs : List X) → length xs ≤ i → drop i xs ≡ []
+drop_past zero [] h = refl
+drop_past zero (x ∷ xs) h = absurd (omega arith)
+drop_past (suc i) [] h = refl
+drop_past (suc i) (x ∷ xs) h = drop_past i xs (omega arith)

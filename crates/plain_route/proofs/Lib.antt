@@ -1,12 +1,11 @@
-pub mod GuideLemmas
-pub mod VertexLemmas
-pub mod OrderLemmas
-pub mod StepLemmas
-pub mod ObstacleLemmas
-pub mod RowLemmas
-pub mod EntryLists
-pub mod RouteLemmas
-pub mod LegalLemmas
-pub mod StopLemmas
-pub mod WayLemmas
-pub mod CellLemmas
+mod AnyLemmas
+mod CountLemmas
+mod TouchLemmas
+mod GuideLemmas
+mod EntryLists
+mod StepLemmas
+mod FitLemmas
+mod VertexLemmas
+mod StopLemmas
+mod LegalLemmas
+mod TurnLemmas

@@ -1,5 +1,5 @@
 -- The edges that lead on from a vertex are among its steps.
-use Rattle.std.proofs.Common.{◌≡◌, ⊎_elim, ℕ, ◌+◌, ◌<◌, ℤ, ◌<ℤ◌, ◌≤ℤ◌, List, [], ◌∷◌, ◌++◌, Bool, length, map, Option, Some, slice_get, Contains, IsTrue, refl, sym, subst, ap, ◌∙◌, arith}
+use Rattle.std.proofs.Common.{◌≡◌, ⊎_elim, ℕ, ◌+◌, ◌<◌, ℤ, ◌<ℤ◌, ◌≤ℤ◌, List, [], ◌∷◌, ◌++◌, Bool, length, map, Option, Some, slice_get, Contains, IsTrue, refl, sym, subst, ap, ◌∙◌, arith, cond, true, false}
 use Rattle.std.specs.Int.{int_min, int_max}
 use Rattle.std.specs.Option.{option_to_list}
 use Rattle.std.proofs.lemmas.Bool.{cases_eq}
@@ -16,10 +16,20 @@ use Rattle.rt_base.specs.declared.walk.Vertex.{Vertex}
 use Rattle.track_graph.specs.declared.design.Design.{Design}
 use Rattle.track_graph.specs.Designs.{IsDesign}
 use Rattle.track_graph.specs.Edges.{AreNeighbours, IsAlong, IsVia, Joins, FitsKind, IsEdge}
-use Rattle.track_graph.specs.Levels.{track_system_of, IsVertex, along, line_of, lines_of, lines_below, positions_of, NoneBetween, vertex_at}
+use Rattle.track_graph.specs.Levels.{track_system_of, IsVertex, along, line_of, lines_of, lines_below, positions_of, NoneBetween, vertex_at, is_horizontal}
 use Rattle.track_graph.proofs.GraphLemmas.{none_between_left, none_between_right}
 use Rattle.plain_route.specs.Steps.{along_edge, by_via, Keeps, HasNeighbours, HasAbove, HasBelow, HasVia, HasVias}
-use Rattle.plain_route.proofs.VertexLemmas.{vertex_is}
+
+-- a vertex is the one at its own line and position
+pub vertex_at_place : (tech : Tech) (v : Vertex) → vertex_at tech v.level (line_of tech v.level v.point) (along tech v.level v.point) ≡ v
+vertex_at_place tech v = by_direction (is_horizontal tech v.level)
+  where
+    by_direction : (b : Bool) → (let it : Vertex = record { level = v.level; point = cond b (record { x = cond b v.point.x v.point.y; y = cond b v.point.y v.point.x }) (record { x = cond b v.point.y v.point.x; y = cond b v.point.x v.point.y }) } in it) ≡ v
+    by_direction true = refl
+    by_direction false = refl
+
+vertex_is : (tech : Tech) (v : Vertex) (level : ℕ) (line position : ℤ) → v.level ≡ level → line_of tech v.level v.point ≡ line → along tech v.level v.point ≡ position → vertex_at tech level line position ≡ v
+vertex_is tech v level line position a b c = rw (sym a, sym b, sym c) (vertex_at_place tech v)
 
 pub keeps_push : (old : List Edge) (e : Edge) (new : List Edge) → new ≡ old ++ e ∷ [] → Keeps old new
 keeps_push old e new is f h = subst (λ es. Contains es f) (sym is) (Contains-append_left old (e ∷ []) f h)

@@ -1,21 +1,24 @@
 -- What a search of a net looks at, and the edges and entries that a legal walk may take there.
-use Rattle.std.specs.Prelude.{◌≡◌, ℕ, false, Contains}
+use Rattle.std.specs.Prelude.{◌≡◌, ℕ, List, false, Contains}
 use Rattle.rt_base.specs.Sides.{Sides}
 use Rattle.rt_base.specs.Geometry.{Holds, high_of}
 use Rattle.rt_base.specs.declared.geometry.Point.{Point}
+use Rattle.rt_base.specs.declared.tech.Shape.{Shape}
 use Rattle.rt_base.specs.declared.walk.Edge.{Edge}
 use Rattle.rt_base.specs.declared.walk.Entry.{Entry}
 use Rattle.rt_base.specs.declared.walk.Vertex.{Vertex}
+use Rattle.standing_shapes.specs.Standing.{AreShapesOf}
 use Rattle.track_graph.specs.declared.design.Design.{Design}
-use Rattle.track_graph.specs.Edges.{IsEdge, EdgeInGuide, edge_metal}
+use Rattle.track_graph.specs.declared.history.State.{State}
+use Rattle.track_graph.specs.Conditions.{IsStateOf}
+use Rattle.track_graph.specs.Designs.{IsDesign}
+use Rattle.track_graph.specs.Edges.{IsEdge, EdgeInGuide, edge_metal, edge_cost_of}
 use Rattle.track_graph.specs.Entries.{entry_part}
 use Rattle.track_graph.specs.Guide.{Guide, InGuide}
+use Rattle.track_graph.specs.Histories.{IsRoutable}
 use Rattle.track_graph.specs.Levels.{track_system_of}
 use Rattle.track_graph.specs.Metal.{shapes_of}
-use Rattle.track_graph.specs.Searches.{guide_of, some_conflict}
-use Rattle.plain_route.specs.declared.ground.Ground.{Ground}
-use Rattle.plain_route.specs.Cells.{IsSifted}
-use Rattle.plain_route.specs.Vertices.{AreVertices}
+use Rattle.track_graph.specs.Searches.{Reading, guide_of, some_conflict, part_cost}
 
 -- a box of the level that holds p has this upper right corner
 pub record Reaches (guide : Guide) (level : ℕ) (p far : Point) : Type 0 where
@@ -28,18 +31,34 @@ pub record Reaches (guide : Guide) (level : ℕ) (p far : Point) : Type 0 where
 abbrev pub CoversAll : Guide → ℕ → Sides → Type 0
 CoversAll guide level s = (r : Point) → Holds s r → InGuide guide level r
 
+-- a design, a state of it with a store of its shapes, and a net that is to be routed
+pub record IsGround (d : Design) (s : State) (n : ℕ) (shapes : List Shape) : Type 0 where
+  pub design : IsDesign d
+  pub state : IsStateOf d s
+  pub net : IsRoutable d n
+  pub stored : AreShapesOf d s shapes
+
 -- an edge from v that a legal walk may take
-pub record IsLegalEdge (d : Design) (g : Ground) (v : Vertex) (e : Edge) : Type 0 where
+pub record IsLegalEdge (d : Design) (n : ℕ) (r : Reading) (v : Vertex) (e : Edge) : Type 0 where
   pub edge : IsEdge (track_system_of d) v e
-  pub inside : EdgeInGuide (guide_of d g.net) v e
-  pub clear : some_conflict d.tech (shapes_of g.net (edge_metal d v e)) g.obstacles.kept ≡ false
+  pub inside : EdgeInGuide (guide_of d n) v e
+  pub clear : some_conflict d.tech (shapes_of n (edge_metal d v e)) r.forbidding ≡ false
+
+-- what an edge costs in a walk
+abbrev pub read_edge_cost : Design → ℕ → Reading → Vertex → Edge → ℕ
+read_edge_cost d n r v e = part_cost d n r (edge_cost_of d v e, edge_metal d v e)
+
+-- such an edge, at its cost
+pub record IsStep (d : Design) (n : ℕ) (r : Reading) (v : Vertex) (e : Edge) (cost : ℕ) : Type 0 where
+  pub legal : IsLegalEdge d n r v e
+  pub sum : cost ≡ read_edge_cost d n r v e
 
 -- an entry at which a legal walk may start or finish
-pub record IsOpen (d : Design) (g : Ground) (e : Entry) : Type 0 where
-  pub inside : InGuide (guide_of d g.net) e.vertex.level e.vertex.point
-  pub clear : some_conflict d.tech (shapes_of g.net (entry_part d g.net e).1) g.obstacles.kept ≡ false
+pub record IsOpen (d : Design) (n : ℕ) (r : Reading) (e : Entry) : Type 0 where
+  pub inside : InGuide (guide_of d n) e.vertex.level e.vertex.point
+  pub clear : some_conflict d.tech (shapes_of n (entry_part d n e).1) r.forbidding ≡ false
 
--- the vertices are those in the net's guide, and the obstacles are in their cells
-pub record IsGround (d : Design) (g : Ground) : Type 0 where
-  pub vertices : AreVertices d g.net g.vertices
-  pub sifted : IsSifted d.tech g.obstacles
+-- such an entry, at its cost
+pub record IsStopAt (d : Design) (n : ℕ) (r : Reading) (e : Entry) (cost : ℕ) : Type 0 where
+  pub open_entry : IsOpen d n r e
+  pub sum : cost ≡ part_cost d n r (entry_part d n e)

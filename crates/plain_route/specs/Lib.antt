@@ -1,9 +1,8 @@
+pub mod Senses
+pub mod Roles
 pub mod Ground
-pub mod Cells
-pub mod Obstacles
-pub mod Vertices
 pub mod Steps
-pub mod Rows
 pub mod Stops
-pub mod WayBack
-pub mod Routes
+pub mod Fitting
+pub mod Vertices
+pub mod Guided

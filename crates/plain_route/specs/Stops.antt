@@ -1,18 +1,17 @@
 -- Where walks of a net may start and finish, and the stops that stand for them.
-use Rattle.std.specs.Prelude.{◌≡◌, ◌⊎◌, ℕ, ◌<◌, List, [], ◌∷◌, ◌++◌, Bool, true, false, if◌then◌else◌, map, flat_map, Contains, slice_get, Some}
+use Rattle.std.specs.Prelude.{◌≡◌, ◌⊎◌, ℕ, List, [], ◌∷◌, ◌++◌, Bool, true, false, if◌then◌else◌, map, flat_map, Contains}
 use Rattle.rt_base.specs.declared.walk.Edge.{Edge}
 use Rattle.rt_base.specs.declared.walk.Entry.{Entry}
 use Rattle.rt_base.specs.declared.walk.EntryKind.TheVariants.{Wire as OnWire}
 use Rattle.rt_base.specs.declared.walk.Vertex.{Vertex}
 use Rattle.rt_base.specs.declared.walk.Walk.{Walk}
-use Rattle.least_walk.specs.declared.graph.Stop.{Stop}
 use Rattle.track_graph.specs.declared.design.Design.{Design}
 use Rattle.track_graph.specs.declared.design.Pin.{Pin}
-use Rattle.track_graph.specs.Entries.{entry_part}
 use Rattle.track_graph.specs.NetWalks.{IsNetEntry}
 use Rattle.track_graph.specs.Walks.{vertices_of}
-use Rattle.plain_route.specs.declared.ground.Ground.{Ground}
-use Rattle.plain_route.specs.Ground.{IsOpen}
+use Rattle.track_graph.specs.Searches.{Reading}
+use Rattle.plain_route.specs.Ground.{IsStopAt}
+use Rattle.least_walk.specs.declared.graph.Stop.{Stop}
 
 abbrev pub on_wire : Vertex → Entry
 on_wire v = record { vertex = v; kind = OnWire }
@@ -55,28 +54,13 @@ pub record AreEntries (d : Design) (n : ℕ) (Sought : Entry → Type 0) (entrie
   pub has : (e : Entry) → Sought e → Contains entries e
   pub fit : AreNetEntries d n entries
 
--- a stop stands for an open entry, at its cost
-pub record IsStop (d : Design) (g : Ground) (entries : List Entry) (s : Stop) : Type 0 where
-  pub entry : Entry
-  pub is : slice_get entries s.tag ≡ Some entry
-  pub open_entry : IsOpen d g entry
-  pub at : slice_get g.vertices s.vertex ≡ Some entry.vertex
-  pub cost : s.cost ≡ (entry_part d g.net entry).0
-
--- a stop with this place as its tag stands for this entry, which is open
-pub record IsStopOf (d : Design) (g : Ground) (e : Entry) (place : ℕ) (s : Stop) : Type 0 where
-  pub tag : s.tag ≡ place
-  pub open_entry : IsOpen d g e
-  pub at : slice_get g.vertices s.vertex ≡ Some e.vertex
-  pub cost : s.cost ≡ (entry_part d g.net e).0
-
--- new is old with a stop for the entry, if it is open, and this place as its tag
-pub record AddsStop (d : Design) (g : Ground) (e : Entry) (place : ℕ) (old new : List Stop) : Type 0 where
+-- new is old with the stop of an entry, if it is open
+pub record AddsStop (d : Design) (n : ℕ) (r : Reading) (e : Entry) (old new : List Stop) : Type 0 where
   pub keeps : (s : Stop) → Contains old s → Contains new s
-  pub only : (s : Stop) → Contains new s → Contains old s ⊎ IsStopOf d g e place s
-  pub has : IsOpen d g e → (s : Stop) × Contains new s × (s.tag ≡ place)
+  pub only : (s : Stop) → Contains new s → Contains old s ⊎ ((s.entry ≡ e) × IsStopAt d n r e s.cost)
+  pub has : (c : ℕ) → IsStopAt d n r e c → Contains new (record { entry = e; cost = c })
 
--- exactly the stops of the open ones of the first entries, each with its place as the tag
-pub record AreStops (d : Design) (g : Ground) (entries : List Entry) (past : ℕ) (stops : List Stop) : Type 0 where
-  pub only : (s : Stop) → Contains stops s → IsStop d g entries s
-  pub has : (k : ℕ) (e : Entry) → k < past → slice_get entries k ≡ Some e → IsOpen d g e → (s : Stop) × Contains stops s × (s.tag ≡ k)
+-- exactly the stops of the open ones of these entries
+pub record AreStops (d : Design) (n : ℕ) (r : Reading) (entries : List Entry) (stops : List Stop) : Type 0 where
+  pub only : (s : Stop) → Contains stops s → Contains entries s.entry × IsStopAt d n r s.entry s.cost
+  pub has : (e : Entry) (c : ℕ) → Contains entries e → IsStopAt d n r e c → Contains stops (record { entry = e; cost = c })

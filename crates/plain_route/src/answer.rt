@@ -1,82 +1,53 @@
 //! The answer of a search.
 ghost use Rattle.std.specs.Prelude.{IfOk, IfSome, IfNone};
-ghost use Rattle.track_graph.specs.Conditions.{IsStateOf};
-ghost use Rattle.track_graph.specs.Designs.{IsDesign};
-ghost use Rattle.track_graph.specs.Histories.{IsRoutable};
-ghost use Rattle.track_graph.specs.Readings.{hard_reading};
 ghost use Rattle.track_graph.specs.Searches.{IsLeast, NoneLegal};
 ghost use Rattle.track_graph.specs.States.{net_state};
 ghost use Rattle.plain_route.specs.Ground.{IsGround};
-ghost use Rattle.plain_route.specs.Stops.{AreNetEntries};
-ghost use Rattle.plain_route.specs.Routes.{IsLeastRoute, HasNoRoute};
+ghost use Rattle.plain_route.specs.Senses.{reading_of};
 
 use crate::entries::{finishes, starts};
 use crate::ground::Ground;
-use crate::obstacles::obstacles;
-use crate::rows::rows;
-use crate::stops::stops;
-use crate::vertices::guide_vertices;
-use crate::way_back::walk_of;
-use least_walk::least_walk;
-use rt_base::{Entry, Memory, Walk};
+use crate::guided::{Guided, bound_to};
+use least_walk::{Tables, least_walk};
+use rt_base::{Memory, Walk};
+use shape_grid::ShapeStore;
 use std::alloc::Global;
-use track_graph::{Design, State};
 
-/// A walk of least cost from one of these starts to one of these finishes that a legal walk may take.
-fn search(
+/// A legal walk of least cost of a net in a state, or `None` where no walk of the net is legal. A walk
+/// starts at an entry of a joined pin or on a standing wire of the net, runs inside the net's guide,
+/// and finishes at an entry of a pin that isn't joined; it is legal where none of its shapes conflicts
+/// with one that forbids, and each edge and entry that conflicts with a dear shape costs eight times
+/// as much. Which shapes forbid and which are dear is up to the sense. A walk may come back to a
+/// vertex. Where several walks cost least, any of them is answered.
+///
+/// The store holds the shapes of the state. The search looks only at vertices whose cost and bound
+/// are at most the answer's cost, and at the shapes near them. The tables may be any before and after;
+/// they keep their memory for the next search. The only error is want of memory.
+pub fn search<S: ShapeStore>(
     alloc: Global,
-    design: &Design,
-    ground: &Ground,
-    starts: &[Entry],
-    finishes: &[Entry],
+    ground: &Ground<S>,
+    tables: &mut Tables,
 ) -> Result<Option<Walk>, Memory>
-    requires design { IsDesign design.now }
-    requires ground { IsGround design.now ground.now }
-    requires starts { AreNetEntries design.now ground.now.net starts.now }
-    requires finishes { AreNetEntries design.now ground.now.net finishes.now }
-    ensures least { IfOk result (λ w. IfSome w (IsLeastRoute design.now ground.now starts.now finishes.now)) }
-    ensures none { IfOk result (λ w. IfNone w (HasNoRoute design.now ground.now starts.now finishes.now)) }
+    requires { IsGround ground.now.design.now ground.now.state.now ground.now.net (S.shapes ground.now.store.now) }
+    ensures least { IfOk result (λ w. IfSome w (IsLeast ground.now.design.now ground.now.net (net_state ground.now.state.now ground.now.net) (reading_of ground.now.design.now ground.now.state.now ground.now.net ground.now.sense.now))) }
+    ensures none { IfOk result (λ w. IfNone w (NoneLegal ground.now.design.now ground.now.net (net_state ground.now.state.now ground.now.net) (reading_of ground.now.design.now ground.now.state.now ground.now.net ground.now.sense.now))) }
 {
-    let rows = rows(alloc, design, ground)?;
-    let sources = stops(alloc, design, ground, starts)?;
-    let targets = stops(alloc, design, ground, finishes)?;
-    let found = least_walk(alloc, &rows, sources.as_slice(), targets.as_slice())?;
-    let Some(walk) = found else {
+    let finishes = finishes(alloc, ground.design, ground.state, ground.net)?;
+    let targets = ground.stops(alloc, finishes.as_slice())?;
+    if targets.is_empty() {
         return Ok(None);
+    }
+    let starts = starts(alloc, ground.design, ground.state, ground.net)?;
+    let sources = ground.stops(alloc, starts.as_slice())?;
+    let guided = Guided {
+        ground,
+        bound: bound_to(alloc, targets.as_slice(), ground.design.options.via)?,
     };
-    Ok(Some(walk_of(alloc, ground, starts, finishes, &walk)?))
-}
-
-/// A legal walk of least cost of a net, or `None` where no walk of the net is legal. A walk starts
-/// at an entry of a joined pin or on a standing wire of the net, runs inside the net's guide, and
-/// finishes at an entry of a pin that isn't joined; it is legal where none of its shapes conflicts
-/// with a fixed or a standing one. It may come back to a vertex. Where several walks cost least,
-/// any of them is answered. For each edge in the guide it looks at the obstacles near the
-/// edge's shapes alone; the search over the edges takes time in O(E log E). The only error is want of memory.
-pub fn plain_search(
-    alloc: Global,
-    design: &Design,
-    state: &State,
-    net: u32,
-) -> Result<Option<Walk>, Memory>
-    requires design { IsDesign design.now }
-    requires routed { IsStateOf design.now state.now }
-    requires net { IsRoutable design.now net }
-    ensures least { IfOk result (λ w. IfSome w (IsLeast design.now net (net_state state.now net) (hard_reading design.now state.now))) }
-    ensures none { IfOk result (λ w. IfNone w (NoneLegal design.now net (net_state state.now net) (hard_reading design.now state.now))) }
-{
-    let ground = Ground {
-        net,
-        vertices: guide_vertices(alloc, design, net)?,
-        obstacles: obstacles(alloc, design, state, net)?,
-    };
-    let starts = starts(alloc, design, state, net)?;
-    let finishes = finishes(alloc, design, state, net)?;
-    search(
+    least_walk(
         alloc,
-        design,
-        &ground,
-        starts.as_slice(),
-        finishes.as_slice(),
+        &guided,
+        sources.as_slice(),
+        targets.as_slice(),
+        tables,
     )
 }

@@ -1,17 +1,19 @@
-//! The plain search: a least walk of a net, vertex by vertex.
+//! The search for a net's least walk, vertex by vertex, over a store of shapes.
 #![tactic(auto)]
 
 mod answer;
-mod axis;
-mod cells;
+mod clash;
 mod entries;
 mod ground;
 mod guide;
-mod obstacles;
-mod rows;
+mod guided;
+mod parts;
+mod plain;
+mod sense;
 mod steps;
 mod stops;
-mod vertices;
-mod way_back;
 
-pub use answer::plain_search;
+pub use answer::search;
+pub use ground::Ground;
+pub use plain::{plain_search, plain_soft};
+pub use sense::Sense;

@@ -1,12 +1,11 @@
 //! The edges that may lead on from a vertex.
-ghost use Rattle.std.specs.Prelude.{◌≡◌, ◌<◌, ◌^◌, ◌<ℤ◌, ◌++◌, length, map, option_to_list, Contains, AllPairs, OnOk, IfOk};
+ghost use Rattle.std.specs.Prelude.{◌≡◌, ◌<◌, ◌^◌, ◌<ℤ◌, ◌++◌, length, map, option_to_list, Contains, AllPairs, OnOk};
 ghost use Rattle.track_graph.specs.Designs.{IsDesign};
 ghost use Rattle.track_graph.specs.Edges.{IsEdge};
 ghost use Rattle.track_graph.specs.Levels.{track_system_of};
 ghost use Rattle.plain_route.specs.Steps.{along_edge, by_via, HasNeighbours, HasAbove, HasBelow, HasVia, HasVias};
 
 use rt_base::{Edge, EdgeKind, Memory, Seq, Tech, Vertex, Via};
-use std::alloc::Global;
 use track_graph::{
     Design, along_of, level_lines, line_at, lines_under, next_above, next_below, vertex_at,
 };
@@ -107,25 +106,18 @@ fn add_vias(edges: &mut Seq<Edge>, tech: &Tech, v: Vertex) -> Result<(), Memory>
     Ok(())
 }
 
-/// At least the edges from a vertex.
-pub fn steps(alloc: Global, design: &Design, v: Vertex) -> Result<Seq<Edge>, Memory>
+/// Adds at least the edges from a vertex.
+pub fn add_steps(edges: &mut Seq<Edge>, design: &Design, v: Vertex) -> Result<(), Memory>
     requires { IsDesign design.now }
-    ensures { IfOk result (λ edges. (e : Edge) → IsEdge (track_system_of design.now) v e → Contains edges e) }
+    ensures { OnOk result ((e : Edge) → IsEdge (track_system_of design.now) v e → Contains edges.new e) }
 {
-    let mut edges = Seq::new(alloc);
     let level = v.level as usize;
+    add_neighbours(edges, &design.tech, v, lines_under(&design.tracks, level))?;
     add_neighbours(
-        &mut edges,
-        &design.tech,
-        v,
-        lines_under(&design.tracks, level),
-    )?;
-    add_neighbours(
-        &mut edges,
+        edges,
         &design.tech,
         v,
         level_lines(&design.tracks, level + 1),
     )?;
-    add_vias(&mut edges, &design.tech, v)?;
-    Ok(edges)
+    add_vias(edges, &design.tech, v)
 }

@@ -1,6 +1,7 @@
 -- A run under way: a history, the state after it, and what is left to do for a net.
 use Rattle.std.specs.Prelude.{◌≡◌, ℕ, Bool, ◌&&◌, ◌||◌, not, IsTrue, if◌then◌else◌, sum_by, List, ◌++◌, All}
 use Rattle.ripup.specs.declared.progress.Progress.{Progress}
+use Rattle.standing_shapes.specs.Standing.{AreShapesOf}
 use Rattle.track_graph.specs.declared.design.Design.{Design}
 use Rattle.track_graph.specs.declared.history.Block.{Block}
 use Rattle.track_graph.specs.declared.history.Block.TheVariants.{Wire, Stuck, RipFor}
@@ -10,10 +11,11 @@ use Rattle.track_graph.specs.Histories.{all_joined, IsHistory}
 use Rattle.track_graph.specs.Orders.{net_of}
 use Rattle.track_graph.specs.States.{net_state, state_of}
 
--- the journal is a history, and the state is the one after it
+-- the journal is a history, the state is the one after it, and the store has the shapes of the state
 pub record IsUnderWay (d : Design) (run : Progress) : Type 0 where
   pub history : IsHistory d run.journal.blocks
   pub state : run.state ≡ state_of d run.journal.blocks
+  pub stored : AreShapesOf d run.state run.store
 
 -- the net isn't marked stuck and has a pin that isn't joined
 abbrev pub is_waiting : NetState → Bool

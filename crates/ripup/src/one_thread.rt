@@ -8,7 +8,9 @@ ghost use Rattle.track_graph.specs.States.{state_of};
 
 use crate::net_order::order;
 use crate::progress::Progress;
+use least_walk::Tables;
 use rt_base::Memory;
+use standing_shapes::stored;
 use std::alloc::Global;
 use track_graph::{Design, Journal, fold};
 
@@ -29,10 +31,17 @@ pub fn finish(alloc: Global, design: &Design, journal: Journal) -> Result<Journa
     ensures state { IfOk result (λ j. IsStateOf design.now (state_of design.now j.blocks)) }
 {
     let state = fold(alloc, design, journal.blocks())?;
-    let mut run = Progress { journal, state };
+    let store = stored(alloc, design, &state)?;
+    let tables = Tables::new(alloc);
+    let mut run = Progress {
+        journal,
+        state,
+        store,
+        tables,
+    };
     for net in order(alloc, design)?.as_slice() {
         run.route(alloc, design, *net)?;
     }
-    let Progress { journal, state: _ } = run;
+    let Progress { journal, .. } = run;
     Ok(journal)
 }

@@ -1,60 +1,99 @@
-use Rattle.std.proofs.Common.{length, sym, subst}
-use Rattle.std.proofs.lemmas.Option.{MatchOption-at_some, MatchOption-at_none}
-use Rattle.least_walk.specs.Walks as number
-use Rattle.plain_route.specs.Rows.{AreRows}
-use Rattle.plain_route.specs.Stops.{AreStops}
-use Rattle.plain_route.proofs.RouteLemmas.{rows_graph, stops_within, no_route, turns_back, least_route}
+use Rattle.std.proofs.Common.{ℕ, List, Option, Some, None, IfSome, IfNone, IfOk, Result, Ok, Err, Contains, get_or, sym, subst, ◌∙◌}
+use Rattle.std.proofs.lemmas.List.{get_or_default}
+use Rattle.rt_base.specs.declared.walk.Entry.{Entry}
+use Rattle.rt_base.specs.declared.walk.Walk.{Walk}
+use Rattle.least_walk.specs.declared.graph.Stop.{Stop}
+use Rattle.track_graph.specs.declared.design.Design.{Design}
+use Rattle.track_graph.specs.declared.history.State.{State}
+use Rattle.track_graph.specs.Levels.{is_horizontal}
+use Rattle.track_graph.specs.NetWalks.{IsNetEntry}
+use Rattle.track_graph.specs.Searches.{Reading, IsStart, IsFinish}
+use Rattle.track_graph.specs.States.{net_state}
+use Rattle.plain_route.specs.Senses.{reading_of}
+use Rattle.plain_route.specs.Stops.{AreEntries, AreStops}
+use Rattle.plain_route.proofs.LegalLemmas.{least_from_route, none_from_routes, none_without, is_graph, stops_listed}
+use Rattle.plain_route.proofs.TurnLemmas.{at_stop}
+use Rattle.plain_route.proofs.VertexLemmas.{listed_near}
 use Rattle.plain_route.proofs.answer.search.Goals as goal
 
+then_some : {P Q : Walk → Type 0} (o : Option Walk) → ((w : Walk) → P w → Q w) → IfSome o P → IfSome o Q
+then_some None f h = tt
+then_some (Some w) f h = f w h
+
+then_none : {P Q : Type 0} (o : Option Walk) → (P → Q) → IfNone o P → IfNone o Q
+then_none None f h = f h
+then_none (Some w) f h = tt
+
+then_ok : {E : Type 0} {P Q : Option Walk → Type 0} (o : Result (Option Walk) E) → ((w : Option Walk) → P w → Q w) → IfOk o P → IfOk o Q
+then_ok (Ok w) f h = f w h
+then_ok (Err e) f h = tt
+
+pub returns-then-is_empty-clause-none : goal.returns-then-is_empty-clause-none
+returns-then-is_empty-clause-none g c =
+    let d : Design = c.args.ground.now.design.now in
+    let s : State = c.args.ground.now.state.now in
+    let n : ℕ = c.args.ground.now.net in
+    let r : Reading = reading_of d s n c.args.ground.now.sense.now in
+    let till : AreStops d n r c.in_ok-finishes.finishes c.in_ok-targets.targets = subst (λ (es : List Entry). AreStops d n r es c.in_ok-targets.targets) c.as_slice.ensures c.in_ok-targets.ensures in
+    none_without d n r (net_state s n) c.in_ok-finishes.finishes c.in_ok-targets.targets c.in_ok-finishes.ensures till (c.is_empty.ensures.0 c.if-is_empty.true)
+
+pub stops-requires-2-clause-entries : goal.stops-requires-2-clause-entries
+stops-requires-2-clause-entries g c e h = c.in_ok-starts.ensures.fit e (subst (λ (es : List Entry). Contains es e) c.as_slice-2.ensures h)
+
+pub bound_to-requires-clause-near : goal.bound_to-requires-clause-near
+bound_to-requires-clause-near g c k x lt =
+    let d = c.args.ground.now.design.now in
+    let till = c.in_ok-targets.ensures in
+    let fit : (e : Entry) → Contains c.as_slice.result.now e → IsNetEntry d c.args.ground.now.net e = λ e h. c.in_ok-finishes.ensures.fit e (subst (λ (es : List Entry). Contains es e) c.as_slice.ensures h) in
+    let t : Stop = get_or c.as_slice-3.result.now k x in
+    let in_targets : Contains c.in_ok-targets.targets t = subst (λ (ts : List Stop). Contains ts t) c.as_slice-3.ensures (k, lt, get_or_default c.as_slice-3.result.now k t x lt) in
+    listed_near d t.entry.vertex (stops_listed d c.args.ground.now.net (reading_of d c.args.ground.now.state.now c.args.ground.now.net c.args.ground.now.sense.now) c.as_slice.result.now c.in_ok-targets.targets c.requires.design fit till t in_targets)
+
 pub least_walk-requires-clause-graph : goal.least_walk-requires-clause-graph
-least_walk-requires-clause-graph c =
-    let d = c.args.design.now in
-    let g = c.args.ground.now in
-    let rows : AreRows d g (length g.vertices) c.deref.result.now = subst (λ (x : number.Graph). AreRows d g (length g.vertices) x) (sym c.deref.ensures.value) c.in_ok-rows.ensures in
-    rows_graph d g c.deref.result.now rows
+least_walk-requires-clause-graph g c =
+    let d = c.args.ground.now.design.now in
+    is_graph d c.args.ground.now.net (reading_of d c.args.ground.now.state.now c.args.ground.now.net c.args.ground.now.sense.now) c.in_ok-bound_to.field-0 c.requires.design c.in_ok-bound_to.ensures.falls c.in_ok-bound_to.ensures.via_is
 
 pub least_walk-requires-clause-sources : goal.least_walk-requires-clause-sources
-least_walk-requires-clause-sources c =
-    let d = c.args.design.now in
-    let g = c.args.ground.now in
-    let rows : AreRows d g (length g.vertices) c.deref.result.now = subst (λ (x : number.Graph). AreRows d g (length g.vertices) x) (sym c.deref.ensures.value) c.in_ok-rows.ensures in
-    let from : AreStops d g c.args.starts.now (length c.args.starts.now) c.as_slice.result.now = subst (AreStops d g c.args.starts.now (length c.args.starts.now)) (sym c.as_slice.ensures) c.in_ok-sources.ensures in
-    stops_within d g c.deref.result.now rows c.args.starts.now (length c.args.starts.now) c.as_slice.result.now from
+least_walk-requires-clause-sources g c s h =
+    let d = c.args.ground.now.design.now in
+    let fit : (e : Entry) → Contains c.as_slice-2.result.now e → IsNetEntry d c.args.ground.now.net e = λ e x. c.in_ok-starts.ensures.fit e (subst (λ (es : List Entry). Contains es e) c.as_slice-2.ensures x) in
+    stops_listed d c.args.ground.now.net (reading_of d c.args.ground.now.state.now c.args.ground.now.net c.args.ground.now.sense.now) c.as_slice-2.result.now c.in_ok-sources.sources c.requires.design fit c.in_ok-sources.ensures s (subst (λ (ts : List Stop). Contains ts s) c.as_slice-4.ensures h)
 
 pub least_walk-requires-clause-targets : goal.least_walk-requires-clause-targets
-least_walk-requires-clause-targets c =
-    let d = c.args.design.now in
-    let g = c.args.ground.now in
-    let rows : AreRows d g (length g.vertices) c.deref.result.now = subst (λ (x : number.Graph). AreRows d g (length g.vertices) x) (sym c.deref.ensures.value) c.in_ok-rows.ensures in
-    let to : AreStops d g c.args.finishes.now (length c.args.finishes.now) c.as_slice-2.result.now = subst (AreStops d g c.args.finishes.now (length c.args.finishes.now)) (sym c.as_slice-2.ensures) c.in_ok-targets.ensures in
-    stops_within d g c.deref.result.now rows c.args.finishes.now (length c.args.finishes.now) c.as_slice-2.result.now to
-
-pub walk_of-requires : goal.walk_of-requires
-walk_of-requires c =
-    let d = c.args.design.now in
-    let g = c.args.ground.now in
-    let rows : AreRows d g (length g.vertices) c.deref.result.now = subst (λ (x : number.Graph). AreRows d g (length g.vertices) x) (sym c.deref.ensures.value) c.in_ok-rows.ensures in
-    let from : AreStops d g c.args.starts.now (length c.args.starts.now) c.as_slice.result.now = subst (AreStops d g c.args.starts.now (length c.args.starts.now)) (sym c.as_slice.ensures) c.in_ok-sources.ensures in
-    let to : AreStops d g c.args.finishes.now (length c.args.finishes.now) c.as_slice-2.result.now = subst (AreStops d g c.args.finishes.now (length c.args.finishes.now)) (sym c.as_slice-2.ensures) c.in_ok-targets.ensures in
-    let least : number.IsLeast c.deref.result.now c.as_slice.result.now c.as_slice-2.result.now c.in-Some.walk = MatchOption-at_some _ _ c.in-Some.walk c.in-Some.is c.in_ok-found.ensures.least in
-    turns_back d g c.deref.result.now rows c.args.starts.now c.args.finishes.now c.as_slice.result.now c.as_slice-2.result.now c.requires.ground from to c.in-Some.walk least.walk
+least_walk-requires-clause-targets g c =
+    let d = c.args.ground.now.design.now in
+    let fit : (e : Entry) → Contains c.as_slice.result.now e → IsNetEntry d c.args.ground.now.net e = λ e x. c.in_ok-finishes.ensures.fit e (subst (λ (es : List Entry). Contains es e) c.as_slice.ensures x) in
+    let b = c.in_ok-bound_to.field-0 in
+    record {
+      within = λ t h. stops_listed d c.args.ground.now.net (reading_of d c.args.ground.now.state.now c.args.ground.now.net c.args.ground.now.sense.now) c.as_slice.result.now c.in_ok-targets.targets c.requires.design fit c.in_ok-targets.ensures t (subst (λ (ts : List Stop). Contains ts t) c.as_slice-5.ensures h);
+      bounded = λ t h. at_stop d b t.entry.vertex t.cost (c.in_ok-bound_to.ensures.zero t (subst (λ (ts : List Stop). Contains ts t) (c.as_slice-5.ensures ∙ sym c.as_slice-3.ensures) h)) (c.in_ok-bound_to.ensures.turned (is_horizontal d.tech t.entry.vertex.level) t (subst (λ (ts : List Stop). Contains ts t) (c.as_slice-5.ensures ∙ sym c.as_slice-3.ensures) h));
+    }
 
 pub returns-clause-least : goal.returns-clause-least
-returns-clause-least c =
-    let d = c.args.design.now in
-    let g = c.args.ground.now in
-    let rows : AreRows d g (length g.vertices) c.deref.result.now = subst (λ (x : number.Graph). AreRows d g (length g.vertices) x) (sym c.deref.ensures.value) c.in_ok-rows.ensures in
-    let from : AreStops d g c.args.starts.now (length c.args.starts.now) c.as_slice.result.now = subst (AreStops d g c.args.starts.now (length c.args.starts.now)) (sym c.as_slice.ensures) c.in_ok-sources.ensures in
-    let to : AreStops d g c.args.finishes.now (length c.args.finishes.now) c.as_slice-2.result.now = subst (AreStops d g c.args.finishes.now (length c.args.finishes.now)) (sym c.as_slice-2.ensures) c.in_ok-targets.ensures in
-    let least : number.IsLeast c.deref.result.now c.as_slice.result.now c.as_slice-2.result.now c.in-Some.walk = MatchOption-at_some _ _ c.in-Some.walk c.in-Some.is c.in_ok-found.ensures.least in
-    least_route d g c.deref.result.now rows c.args.starts.now c.args.finishes.now c.as_slice.result.now c.as_slice-2.result.now c.requires.ground from to c.in-Some.walk c.in_ok-walk_of.field-0 least c.in_ok-walk_of.ensures
+returns-clause-least g c =
+    let d : Design = c.args.ground.now.design.now in
+    let s : State = c.args.ground.now.state.now in
+    let n : ℕ = c.args.ground.now.net in
+    let r : Reading = reading_of d s n c.args.ground.now.sense.now in
+    let from : AreEntries d n (IsStart d n (net_state s n)) c.in_ok-starts.starts = c.in_ok-starts.ensures in
+    let to : AreEntries d n (IsFinish d n (net_state s n)) c.in_ok-finishes.finishes = c.in_ok-finishes.ensures in
+    let at : AreStops d n r c.in_ok-starts.starts c.as_slice-4.result.now = subst (λ (ts : List Stop). AreStops d n r c.in_ok-starts.starts ts) (sym c.as_slice-4.ensures) (subst (λ (es : List Entry). AreStops d n r es c.in_ok-sources.sources) c.as_slice-2.ensures c.in_ok-sources.ensures) in
+    let till : AreStops d n r c.in_ok-finishes.finishes c.as_slice-5.result.now = subst (λ (ts : List Stop). AreStops d n r c.in_ok-finishes.finishes ts) (sym c.as_slice-5.ensures) (subst (λ (es : List Entry). AreStops d n r es c.in_ok-targets.targets) c.as_slice.ensures c.in_ok-targets.ensures) in
+    then_ok c.least_walk.result
+    (λ o. then_some o (least_from_route d n r (net_state s n) c.in_ok-starts.starts c.in_ok-finishes.finishes c.as_slice-4.result.now c.as_slice-5.result.now from to at till))
+    c.least_walk.ensures.least
 
-pub returns-in_default-clause-none : goal.returns-in_default-clause-none
-returns-in_default-clause-none c =
-    let d = c.args.design.now in
-    let g = c.args.ground.now in
-    let rows : AreRows d g (length g.vertices) c.deref.result.now = subst (λ (x : number.Graph). AreRows d g (length g.vertices) x) (sym c.deref.ensures.value) c.in_ok-rows.ensures in
-    let from : AreStops d g c.args.starts.now (length c.args.starts.now) c.as_slice.result.now = subst (AreStops d g c.args.starts.now (length c.args.starts.now)) (sym c.as_slice.ensures) c.in_ok-sources.ensures in
-    let to : AreStops d g c.args.finishes.now (length c.args.finishes.now) c.as_slice-2.result.now = subst (AreStops d g c.args.finishes.now (length c.args.finishes.now)) (sym c.as_slice-2.ensures) c.in_ok-targets.ensures in
-    let none : number.HasNone c.deref.result.now c.as_slice.result.now c.as_slice-2.result.now = MatchOption-at_none _ _ c.in_default.is c.in_ok-found.ensures.none in
-    no_route d g c.deref.result.now rows c.args.starts.now c.args.finishes.now c.as_slice.result.now c.as_slice-2.result.now c.requires.ground from to none
+pub returns-clause-none : goal.returns-clause-none
+returns-clause-none g c =
+    let d : Design = c.args.ground.now.design.now in
+    let s : State = c.args.ground.now.state.now in
+    let n : ℕ = c.args.ground.now.net in
+    let r : Reading = reading_of d s n c.args.ground.now.sense.now in
+    let from : AreEntries d n (IsStart d n (net_state s n)) c.in_ok-starts.starts = c.in_ok-starts.ensures in
+    let to : AreEntries d n (IsFinish d n (net_state s n)) c.in_ok-finishes.finishes = c.in_ok-finishes.ensures in
+    let at : AreStops d n r c.in_ok-starts.starts c.as_slice-4.result.now = subst (λ (ts : List Stop). AreStops d n r c.in_ok-starts.starts ts) (sym c.as_slice-4.ensures) (subst (λ (es : List Entry). AreStops d n r es c.in_ok-sources.sources) c.as_slice-2.ensures c.in_ok-sources.ensures) in
+    let till : AreStops d n r c.in_ok-finishes.finishes c.as_slice-5.result.now = subst (λ (ts : List Stop). AreStops d n r c.in_ok-finishes.finishes ts) (sym c.as_slice-5.ensures) (subst (λ (es : List Entry). AreStops d n r es c.in_ok-targets.targets) c.as_slice.ensures c.in_ok-targets.ensures) in
+    then_ok c.least_walk.result
+    (λ o. then_none o (none_from_routes d n r (net_state s n) c.in_ok-starts.starts c.in_ok-finishes.finishes c.as_slice-4.result.now c.as_slice-5.result.now from to at till))
+    c.least_walk.ensures.none

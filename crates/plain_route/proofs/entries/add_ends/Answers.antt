@@ -1,13 +1,16 @@
-use Rattle.std.proofs.Common.{◌≡◌, ◌++◌, ◌∷◌, ◌+◌, List, [], drop, get_or, sym, subst, ap, ◌∙◌}
+use Rattle.std.proofs.Common.{◌≡◌, ◌++◌, ◌∷◌, ◌+◌, List, [], drop, get_or, pos, sym, subst, ap, ◌∙◌}
 use Rattle.std.proofs.lemmas.List.{append-nil, get_or_default}
 use Rattle.rt_base.specs.declared.walk.Edge.{Edge}
 use Rattle.rt_base.specs.declared.walk.EdgeKind.TheVariants.{Along}
-use Rattle.plain_route.specs.Rows.{no_vertex}
+use Rattle.rt_base.specs.declared.walk.Vertex.{Vertex}
 use Rattle.rt_base.specs.declared.walk.Entry.{Entry}
 use Rattle.plain_route.specs.Stops.{ends_of, on_wire}
 use Rattle.plain_route.proofs.EntryLists.{ends_of-more}
-use Rattle.plain_route.proofs.ObstacleLemmas.{drop_past}
+use Rattle.plain_route.proofs.EntryLists.{drop_past}
 use Rattle.plain_route.proofs.entries.add_ends.Goals as goal
+
+abbrev no_vertex : Vertex
+no_vertex = record { level = 0; point = record { x = pos 0; y = pos 0 } }
 
 pub loop-e-preserved : goal.loop-e-preserved
 loop-e-preserved c =

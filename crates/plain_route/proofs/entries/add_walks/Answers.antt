@@ -4,7 +4,7 @@ use Rattle.rt_base.specs.declared.walk.Entry.{Entry}
 use Rattle.rt_base.specs.declared.walk.Walk.{Walk}
 use Rattle.plain_route.specs.Stops.{wire_entries}
 use Rattle.plain_route.proofs.EntryLists.{wire_entries-more}
-use Rattle.plain_route.proofs.ObstacleLemmas.{drop_past}
+use Rattle.plain_route.proofs.EntryLists.{drop_past}
 use Rattle.plain_route.proofs.entries.add_walks.Goals as goal
 
 pub loop-walk-preserved : goal.loop-walk-preserved

@@ -3,7 +3,7 @@ use Rattle.std.proofs.lemmas.List.{append-nil, get_or_default}
 use Rattle.rt_base.specs.declared.walk.Entry.{Entry}
 use Rattle.plain_route.specs.Stops.{pin_entries}
 use Rattle.plain_route.proofs.EntryLists.{pin_entries-more}
-use Rattle.plain_route.proofs.ObstacleLemmas.{drop_past}
+use Rattle.plain_route.proofs.EntryLists.{drop_past}
 use Rattle.plain_route.proofs.entries.pin_entries.Goals as goal
 
 pub loop-i-init : goal.loop-i-init

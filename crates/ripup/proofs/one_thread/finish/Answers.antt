@@ -19,7 +19,7 @@ fold-requires c =
 
 pub loop-net-init : goal.loop-net-init
 loop-net-init c = record {
-  under_way = record { history = c.requires.history; state = c.in_ok-state.ensures.after ∙ ap (state_of c.args.design.now) c.blocks-2.ensures };
+  under_way = record { history = c.requires.history; state = c.in_ok-state.ensures.after ∙ ap (state_of c.args.design.now) c.blocks-2.ensures; stored = c.in_ok-store.ensures };
   goes_on = goes_on-first c.args.design.now c.args.journal.blocks;
   done = All-nil _;
 }

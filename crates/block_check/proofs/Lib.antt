@@ -1,0 +1,4 @@
+mod Members
+mod LegalLemmas
+mod LayerLemmas
+mod CrossedLemmas

@@ -1,0 +1,4 @@
+pub mod Starts
+pub mod Legal
+pub mod Crossed
+pub mod Check

@@ -1,0 +1,3 @@
+pub mod Hits
+pub mod Ascents
+pub mod Ripped

@@ -1,0 +1,25 @@
+//! What a search writes down.
+use crate::known::Known;
+use crate::label::Search;
+use rt_base::{Edge, Seq};
+use std::alloc::Global;
+
+/// What searches write down, kept from one to the next so that its memory is taken once: the labels,
+/// the number of a cheapest target at each vertex that has one, and the edges from one vertex.
+#[derive(Drop)]
+pub struct Tables {
+    pub(crate) search: Search,
+    pub(crate) ends: Known,
+    pub(crate) edges: Seq<Edge>,
+}
+
+impl Tables {
+    /// Empty tables. Takes no memory.
+    pub fn new(alloc: Global) -> Tables {
+        Tables {
+            search: Search::new(alloc),
+            ends: Known::new(alloc),
+            edges: Seq::new(alloc),
+        }
+    }
+}

@@ -1,0 +1,8 @@
+use Rattle.std.proofs.Common.{sym, ◌∙◌}
+use Rattle.track_graph.specs.Edges.{edge_metal}
+use Rattle.track_graph.specs.Metal.{shapes_of}
+use Rattle.plain_route.proofs.FitLemmas.{none_dear}
+use Rattle.plain_route.proofs.ground.Ground.is_edge_dear.Goals as goal
+
+pub returns-else-has_dear : goal.returns-else-has_dear
+returns-else-has_dear g c = c.if-has_dear.false ∙ sym (none_dear c.args.self.now.design.now c.args.self.now.state.now c.args.self.now.net c.args.self.now.sense.now (shapes_of c.args.self.now.net (edge_metal c.args.self.now.design.now c.args.v c.args.e.now)) (sym c.has_dear.ensures ∙ c.if-has_dear.false))
