@@ -5,7 +5,7 @@ ghost use Rattle.rt_base.specs.Geometry.{nearest};
 use std::marker::Model;
 
 /// A point.
-#[derive(Clone, Copy, Debug, PartialEq, Eq, PartialOrd, Ord)]
+#[derive(Clone, Copy, Debug, PartialEq, Eq, PartialOrd, Ord, Hash)]
 pub struct Point {
     pub x: i64,
     pub y: i64,

@@ -16,7 +16,7 @@ pub enum Owner {
 
 /// A rectangle of metal or of a cut on one layer. `fixed` is true for shapes of the input and false
 /// for routed ones.
-#[derive(Clone, Copy, Debug, PartialEq, Eq)]
+#[derive(Clone, Copy, Debug, PartialEq, Eq, PartialOrd, Ord)]
 pub struct Shape {
     pub layer: LayerNo,
     pub rect: Rect,

@@ -3,7 +3,7 @@ use crate::geometry::Point;
 use crate::seq::Seq;
 
 /// A level, which is a routing layer counted from 0, bottom up, and a point on it.
-#[derive(Clone, Copy, Debug, PartialEq, Eq, PartialOrd, Ord)]
+#[derive(Clone, Copy, Debug, PartialEq, Eq, PartialOrd, Ord, Hash)]
 pub struct Vertex {
     pub level: u8,
     pub point: Point,

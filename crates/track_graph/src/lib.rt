@@ -23,8 +23,8 @@ pub use levels::{
     line_at, lines_under, vertex_at,
 };
 pub use lines::{count_below, count_up_to, lines_in, next_above, next_below};
-pub use look_up::{guide_of, net_name, via_layer_name, via_name};
-pub use shapes::{edge_shapes, entry_shapes, walk_shapes};
+pub use look_up::{guide_of, net_name, via_layer_name, via_name, via_rects};
+pub use shapes::{edge_shapes, entry_shapes, walk_shapes, wire_shape};
 pub use state::{copy_walk, finished, fold, may_rip};
 pub use stroke_list::{edge_strokes, strokes};
 pub use stubs::{entry_cost, stub_point};

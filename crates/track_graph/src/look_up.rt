@@ -38,8 +38,8 @@ pub fn via_name(tech: &Tech, via: u32) -> &[u8]
     }
 }
 
-/// The rectangles of a via round (0, 0), none where there is no such via.
-fn rects_of_via(tech: &Tech, via: u32) -> &[(LayerNo, Rect)]
+/// The rectangles of a via round (0, 0), each on a layer, none where there is no such via. Takes no memory.
+pub fn via_rects(tech: &Tech, via: u32) -> &[(LayerNo, Rect)]
     ensures { result.now ≡ via_rects tech.now via }
 {
     match tech.vias.as_slice().get(via as usize) {
@@ -60,7 +60,7 @@ fn is_on_layer(rects: &[(LayerNo, Rect)], layer: usize) -> bool
 pub fn via_layer_name(tech: &Tech, via: u32) -> &[u8]
     ensures { result.now ≡ via_level_name tech.now via }
 {
-    let rects = rects_of_via(tech, via);
+    let rects = via_rects(tech, via);
     let layers = tech.layers.as_slice();
     for (i, layer) in layers.iter().enumerate() {
         if layer.routing && is_on_layer(rects, i) {

@@ -44,8 +44,9 @@ fn half_width(tech: &Tech, level: u8) -> i64
     }
 }
 
-/// The shape of a straight wire of a net between two points of a level.
-fn wire_shape(tech: &Tech, net: u32, level: u8, p: Point, q: Point) -> Shape
+/// The shape of a straight wire of a net between two points of a level: the hull of the two squares of
+/// the level's width round them. Takes no memory.
+pub fn wire_shape(tech: &Tech, net: u32, level: u8, p: Point, q: Point) -> Shape
     requires tech { IsTech tech.now }
     requires p { IsPointWithin (2 ^ 32) p }
     requires q { IsPointWithin (2 ^ 32) q }
