@@ -23,10 +23,10 @@ const TILES: &[&str] = &["route", "l", "d", "-", "o", "j", "--tile", "1000"];
 
 const PAIRS: &[&str] = &["route", "l", "d", "-", "o", "j", "--tile", "2"];
 
-const CHEAP: &[&str] = &["route", "l", "d", "-", "o", "j", "--via", "0"];
+const CHEAP: &[&str] = &["route", "l", "d", "-", "o", "j", "--via", "1599"];
 
 const DEAR: &[&str] = &[
-    "route", "l", "d", "-", "o", "j", "--tile", "64", "--via", "1600",
+    "route", "l", "d", "-", "o", "j", "--tile", "64", "--via", "1601",
 ];
 
 /// The files `l`, `d` and `g`.
