@@ -53,6 +53,9 @@ module _ (vertices : List Vertex) (HasEdge : Vertex → Edge → ℕ → Type 0)
     pub leads_got : (e : Edge) (c : ℕ) → HasEdge x.vertex e c → HasEdge (vertex_at ls k) e c
     leads_got e c h = subst (λ (y : Label). HasEdge y.vertex e c) (sym got) h
 
+    pub least_got : (e : Edge) (least : ℕ) → ((c : ℕ) → HasEdge x.vertex e c → least ≤ c) → (c : ℕ) → HasEdge (vertex_at ls k) e c → least ≤ c
+    least_got e least at_most c h = at_most c (subst (λ (y : Label). HasEdge y.vertex e c) got h)
+
     pub no_edge_got : (e : Edge) → ((c : ℕ) → HasEdge x.vertex e c → ⊥) → (c : ℕ) → HasEdge (vertex_at ls k) e c → IsCovered ls known e.to (dist_at ls k + c)
     no_edge_got e none c h = absurd (none c (subst (λ (y : Label). HasEdge y.vertex e c) got h))
 
@@ -110,6 +113,10 @@ module _ (vertices : List Vertex) (HasEdge : Vertex → Edge → ℕ → Type 0)
           is_number = is;
           cheap = omega (arith, mid.top n s, lk.is_key, ln.is_key, b, graph.falls (vertex_at ls k) e c lk.within h);
         }
+
+    -- it has a label that is as near as a number that is at most the edge's cost
+    pub covers_least : (n least : ℕ) → number_of known e.to ≡ Some n → ((c : ℕ) → HasEdge (vertex_at ls k) e c → least ≤ c) → dist_at ls n ≤ dist_at ls k + least → (d : ℕ) → HasEdge (vertex_at ls k) e d → IsCovered ls known e.to (dist_at ls k + d)
+    covers_least n least is at_most near d r = record { number = n; is_number = is; cheap = omega (arith, near, at_most d r) }
 
     -- it has a label that is as near
     pub covers_near : (n c : ℕ) → number_of known e.to ≡ Some n → HasEdge (vertex_at ls k) e c → dist_at ls n ≤ dist_at ls k + c → (d : ℕ) → HasEdge (vertex_at ls k) e d → IsCovered ls known e.to (dist_at ls k + d)

@@ -38,11 +38,12 @@ pub record IsLeastRoute (HasEdge : Vertex → Edge → ℕ → Type 0) (sources 
 abbrev pub HasNoRoute : (Vertex → Edge → ℕ → Type 0) → List Stop → List Stop → Type 0
 HasNoRoute HasEdge sources targets = (v : Walk) (c : ℕ) → IsRoute HasEdge sources targets v c → ⊥
 
--- edges lead from vertices to vertices, an edge has one cost, and a bound falls along an edge by its cost at most
+-- edges lead from vertices to vertices, an edge has one cost, a bound falls along an edge by its cost at most, and some edge leads back
 pub record IsGraph (vertices : List Vertex) (HasEdge : Vertex → Edge → ℕ → Type 0) (bound_of : Vertex → ℕ) : Type 0 where
   pub leads : (v : Vertex) (e : Edge) (c : ℕ) → Contains vertices v → HasEdge v e c → Contains vertices e.to
   pub single : (v : Vertex) (e : Edge) (c d : ℕ) → Contains vertices v → HasEdge v e c → HasEdge v e d → c ≡ d
   pub falls : (v : Vertex) (e : Edge) (c : ℕ) → Contains vertices v → HasEdge v e c → bound_of v ≤ c + bound_of e.to
+  pub back : (v : Vertex) (e : Edge) (c : ℕ) → Contains vertices v → HasEdge v e c → (f : Edge) × (d : ℕ) × HasEdge e.to f d × (f.to ≡ v)
 
 -- each stop is at a vertex
 abbrev pub AreStarts : List Vertex → List Stop → Type 0

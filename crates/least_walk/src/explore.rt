@@ -3,8 +3,9 @@ ghost use Rattle.std.specs.Prelude.{◌≡◌, ◌+◌, ◌<◌, ◌++◌, ◌�
 ghost use Rattle.rt_base.specs.declared.walk.Edge.{Edge as OfEdge};
 ghost use Rattle.least_walk.specs.Routes.{IsGraph, AreStarts, HoldsEdges};
 ghost use Rattle.least_walk.specs.Queue.{NoneBelow};
-ghost use Rattle.least_walk.specs.Search.{IsSound, IsMid, IsStarted, Keeps};
-ghost use Rattle.least_walk.specs.Ends.{IsEnds, IsBest};
+ghost use Rattle.std.specs.Bool.{OnFalse, OnTrue};
+ghost use Rattle.least_walk.specs.Search.{IsSound, IsMid, IsStarted, Keeps, open_count};
+ghost use Rattle.least_walk.specs.Ends.{IsEnds, IsUnderway};
 
 use crate::ends::limit_of;
 use crate::graph::{Graph, Stop};
@@ -14,7 +15,8 @@ use rt_base::{Edge, Memory, Seq};
 
 impl Search {
     /// Adds a label for what an edge from a settled vertex leads to, unless that is settled or has a
-    /// label that is as near.
+    /// label that is as near. The cost of the edge is asked for only where its least cost would lead
+    /// nearer.
     fn follow<G: Graph>(
         &mut self,
         graph: &G,
@@ -34,6 +36,10 @@ impl Search {
         }
         let labels = self.labels.as_slice();
         let from = labels[number];
+        let nearest = from.dist + graph.least(from.vertex, &edge) as u128;
+        if !self.is_nearer(met, nearest) {
+            return Ok(());
+        }
         let Some(cost) = graph.cost(from.vertex, &edge) else {
             return Ok(());
         };
@@ -131,8 +137,61 @@ impl Search {
         Ok(())
     }
 
-    /// Settles vertices in the order of their keys until none is below the cost of the best finish,
-    /// and answers that.
+    /// Settles a vertex of least key, where that is below the cost of the best finish, and follows its
+    /// edges. False where there is none.
+    fn step<G: Graph>(
+        &mut self,
+        graph: &G,
+        sources: &[Stop],
+        targets: &[Stop],
+        ends: &Known,
+        edges: &mut Seq<Edge>,
+        best: &mut Option<Best>,
+    ) -> Result<bool, Memory>
+        requires whole { G.IsWhole graph.now }
+        requires graph { IsGraph (G.vertices graph.now) (G.HasEdge graph.now) (G.bound_of graph.now) }
+        requires ends { IsEnds targets.now (length targets.now) ends.now }
+        requires underway { IsUnderway (G.vertices graph.now) (G.HasEdge graph.now) (G.bound_of graph.now) sources.now targets.now self.old best.old }
+        ensures underway { OnOk result (IsUnderway (G.vertices graph.now) (G.HasEdge graph.now) (G.bound_of graph.now) sources.now targets.now self.new best.new) }
+        ensures fewer { IfOk result (λ more. OnTrue more (open_count self.new.settled.items self.new.known (G.vertices graph.now) < open_count self.old.settled.items self.old.known (G.vertices graph.now))) }
+        ensures done { IfOk result (λ more. OnFalse more (NoneBelow (option_map (λ b. b.cost) best.new) self.new.queue)) }
+    {
+        let Some(number) = self.settle_next(limit_of(*best)) else {
+            return Ok(false);
+        };
+        *best = self.improve(ends, targets, number, *best);
+        self.expand(graph, sources, number, edges)?;
+        Ok(true)
+    }
+
+    /// Settles at most so many vertices in the order of their keys, and says whether none is below the
+    /// cost of the best finish then.
+    pub fn try_run<G: Graph>(
+        &mut self,
+        graph: &G,
+        sources: &[Stop],
+        targets: &[Stop],
+        ends: &Known,
+        edges: &mut Seq<Edge>,
+        best: &mut Option<Best>,
+        most: usize,
+    ) -> Result<bool, Memory>
+        requires whole { G.IsWhole graph.now }
+        requires graph { IsGraph (G.vertices graph.now) (G.HasEdge graph.now) (G.bound_of graph.now) }
+        requires ends { IsEnds targets.now (length targets.now) ends.now }
+        requires underway { IsUnderway (G.vertices graph.now) (G.HasEdge graph.now) (G.bound_of graph.now) sources.now targets.now self.old best.old }
+        ensures underway { OnOk result (IsUnderway (G.vertices graph.now) (G.HasEdge graph.now) (G.bound_of graph.now) sources.now targets.now self.new best.new) }
+        ensures done { IfOk result (λ done. OnTrue done (NoneBelow (option_map (λ b. b.cost) best.new) self.new.queue)) }
+    {
+        'steps: for _ in 0..most {
+            if !self.step(graph, sources, targets, ends, edges, best)? {
+                return Ok(true);
+            }
+        }
+        Ok(false)
+    }
+
+    /// Settles vertices in the order of their keys until none is below the cost of the best finish.
     pub fn run<G: Graph>(
         &mut self,
         graph: &G,
@@ -140,20 +199,16 @@ impl Search {
         targets: &[Stop],
         ends: &Known,
         edges: &mut Seq<Edge>,
-    ) -> Result<Option<Best>, Memory>
+        best: &mut Option<Best>,
+    ) -> Result<(), Memory>
         requires whole { G.IsWhole graph.now }
         requires graph { IsGraph (G.vertices graph.now) (G.HasEdge graph.now) (G.bound_of graph.now) }
-        requires started { IsStarted (G.vertices graph.now) (G.HasEdge graph.now) (G.bound_of graph.now) sources.now (length sources.now) self.old }
         requires ends { IsEnds targets.now (length targets.now) ends.now }
-        ensures sound { OnOk result (IsSound (G.vertices graph.now) (G.HasEdge graph.now) (G.bound_of graph.now) sources.now self.new) }
-        ensures best { IfOk result (IsBest self.new targets.now) }
-        ensures done { IfOk result (λ best. NoneBelow (option_map (λ b. b.cost) best) self.new.queue) }
+        requires underway { IsUnderway (G.vertices graph.now) (G.HasEdge graph.now) (G.bound_of graph.now) sources.now targets.now self.old best.old }
+        ensures underway { OnOk result (IsUnderway (G.vertices graph.now) (G.HasEdge graph.now) (G.bound_of graph.now) sources.now targets.now self.new best.new) }
+        ensures done { OnOk result (NoneBelow (option_map (λ b. b.cost) best.new) self.new.queue) }
     {
-        let mut best = None;
-        while let Some(number) = self.settle_next(limit_of(best)) {
-            best = self.improve(ends, targets, number, best);
-            self.expand(graph, sources, number, edges)?;
-        }
-        Ok(best)
+        'steps: while self.step(graph, sources, targets, ends, edges, best)? {}
+        Ok(())
     }
 }

@@ -1,5 +1,5 @@
 //! Graphs and stops.
-ghost use Rattle.std.specs.Prelude.{◌≡◌, ℕ, List, OnOk, IfSome, IfNone, Contains};
+ghost use Rattle.std.specs.Prelude.{◌≡◌, ◌≤◌, ℕ, List, OnOk, IfSome, IfNone, Contains};
 ghost use Rattle.rt_base.specs.declared.walk.Vertex.{Vertex as OfVertex};
 ghost use Rattle.rt_base.specs.declared.walk.Edge.{Edge as OfEdge};
 ghost use Rattle.least_walk.specs.Routes.{HoldsEdges};
@@ -41,6 +41,12 @@ pub trait Graph {
         requires from { Contains (vertices self.now) from }
         ensures some { IfSome result (HasEdge self.now from edge.now) }
         ensures none { IfNone result ((c : ℕ) → HasEdge self.now from edge.now c → ⊥) };
+
+    /// A number that is at most what it costs to follow an edge from a vertex. Takes no memory.
+    fn least(&self, from: Vertex, edge: &Edge) -> u64
+        requires whole { IsWhole self.now }
+        requires from { Contains (vertices self.now) from }
+        ensures { (c : ℕ) → HasEdge self.now from edge.now c → result ≤ c };
 
     /// A number that is at most the cost from a vertex to any target. Takes no memory.
     fn bound(&self, from: Vertex) -> u64

@@ -4,6 +4,7 @@
 mod answer;
 mod ends;
 mod explore;
+mod flood;
 mod graph;
 mod known;
 mod label;

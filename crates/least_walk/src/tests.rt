@@ -1,6 +1,8 @@
 //! Least walks in the smallest graph.
 ghost use Rattle.std.specs.Prelude.{◌≡◌, ◌↔◌, All, IsTrue};
 
+use crate::flood::Flood;
+use crate::known::Known;
 use crate::{Graph, Stop, Tables, least_walk};
 use rt_base::{Edge, Entry, EntryKind, Memory, Point, Seq, Vertex};
 use std::alloc::Global;
@@ -30,6 +32,10 @@ impl Graph for Lone {
 
     fn cost(&self, _from: Vertex, _edge: &Edge) -> Option<u64> {
         None
+    }
+
+    fn least(&self, _from: Vertex, _edge: &Edge) -> u64 {
+        0
     }
 
     fn bound(&self, _from: Vertex) -> u64 {
@@ -73,6 +79,23 @@ fn expect(
     Ok(())
 }
 
+/// Checks whether a flood of at most so many vertices finds the targets walled in.
+fn expect_cut_off(
+    rt: &impl Abort,
+    alloc: Global,
+    graph: &Lone,
+    targets: &[Stop],
+    met: &Known,
+    most: usize,
+    want: bool,
+) -> Result<(), Fail> {
+    assert!(rt; are_at(graph.vertex, targets));
+    let mut flood = Flood::new(alloc);
+    let cut = flood.is_cut_off(graph, &[], targets, met, &mut Seq::new(alloc), most)?;
+    assert_eq!(rt; cut, want);
+    Ok(())
+}
+
 #[test]
 fn cheaper_stops(rt: HostRuntime) -> Result<(), Fail> {
     let vertex = Vertex {
@@ -88,4 +111,21 @@ fn cheaper_stops(rt: HostRuntime) -> Result<(), Fail> {
     expect(&rt, a, &mut tables, &graph, &sources, &targets, want)?;
     expect(&rt, a, &mut tables, &graph, &sources, &[], None)?;
     expect(&rt, a, &mut tables, &graph, &[], &targets, None)
+}
+
+#[test]
+fn walled_in_targets(rt: HostRuntime) -> Result<(), Fail> {
+    let vertex = Vertex {
+        level: 1,
+        point: Point { x: 3, y: -4 },
+    };
+    let a = rt.alloc();
+    let graph = Lone { vertex };
+    let mut met = Known::new(a);
+    let targets = [stop(vertex, 0, 7), stop(vertex, 1, 5)];
+    expect_cut_off(&rt, a, &graph, &targets, &met, 0, false)?;
+    expect_cut_off(&rt, a, &graph, &targets, &met, 1, true)?;
+    expect_cut_off(&rt, a, &graph, &targets, &met, 2, true)?;
+    met.set(vertex, 0)?;
+    expect_cut_off(&rt, a, &graph, &targets, &met, 2, false)
 }

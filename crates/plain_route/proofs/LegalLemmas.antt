@@ -13,9 +13,8 @@ use Rattle.rt_base.specs.declared.walk.Entry.{Entry}
 use Rattle.rt_base.specs.declared.walk.Vertex.{Vertex}
 use Rattle.rt_base.specs.declared.walk.Walk.{Walk}
 use Rattle.future_cost.specs.declared.bound.Bound.{Bound}
-use Rattle.future_cost.specs.Laws.{Falls}
-use Rattle.future_cost.specs.Under.{under}
-use Rattle.plain_route.specs.Guided.{to_stops}
+use Rattle.plain_route.specs.Guided.{to_hull, to_stops, IsFairBound}
+use Rattle.plain_route.proofs.BackLemmas.{step_back}
 use Rattle.plain_route.proofs.TurnLemmas.{along_falls, via_falls}
 use Rattle.least_walk.specs.declared.graph.Stop.{Stop}
 use Rattle.least_walk.specs.Routes as route
@@ -33,6 +32,7 @@ use Rattle.plain_route.specs.Ground.{IsStep, IsStopAt}
 use Rattle.plain_route.specs.Stops.{AreEntries, AreStops, AreNetEntries}
 use Rattle.plain_route.specs.Vertices.{vertices_of}
 use Rattle.plain_route.proofs.VertexLemmas.{vertex_listed}
+use Rattle.plain_route.proofs.BoundLemmas.{stops_fall}
 
 or_false : (a b : Bool) → (a || b) ≡ false → (a ≡ false) × (b ≡ false)
 or_false true b h = cc
@@ -46,7 +46,7 @@ ends_same v [] = refl
 ends_same v (e ∷ es) = ends_same e.to es
 
 -- a part costs at least what it costs by itself
-at_least : (d : Design) (n : ℕ) (r : Reading) (part : ℕ × List Metal) → part.0 ≤ part_cost d n r part
+pub at_least : (d : Design) (n : ℕ) (r : Reading) (part : ℕ × List Metal) → part.0 ≤ part_cost d n r part
 at_least d n r part = by_test (some_conflict d.tech (shapes_of n part.1) r.dear)
   where
     by_test : (b : Bool) → part.0 ≤ cond b (8 * part.0) part.0
@@ -163,24 +163,26 @@ module _ (d : Design) (n : ℕ) (r : Reading) where
       let found : Contains targets target = till.has w.finish (part_cost d n r (entry_part d n w.finish)) (to.has w.finish h.walk.finish) (record { open_entry = record { inside = h.inside.finish; clear = b.0 }; sum = refl }) in
       none_in target (subst (λ (ts : List Stop). Contains ts target) e found)
 
+  -- over a step the bound of a hull falls by the step's cost at most
+  step_falls : (b : Bound) → IsFairBound d.options.via b → (v : Vertex) (e : Edge) (c : ℕ) → IsStep d n r v e c → to_hull d b v ≤ c + to_hull d b e.to
+  step_falls b fair v e c step = by_kind e.kind step.legal.edge.kind (omega (arith, at_least d n r (edge_cost_of d v e, edge_metal d v e), step.sum))
+    where
+      by_kind : (k : EdgeKind) → FitsKind (track_system_of d) k v e.to → kind_cost d k v e.to ≤ c → to_hull d b v ≤ c + to_hull d b e.to
+      by_kind Along fits le = along_falls d b v e.to c fits.level fits.line (fair.falls v e.to c (inl (record { level = fits.level; cost = le })))
+      by_kind (ByVia k) fits le = via_falls d b v e.to c fair.via_is (record {
+        point = fits.point;
+        levels = ⊎_elim (λ up. inr up.0) (λ down. inl down.0) fits.levels;
+        cost = le;
+      })
+
   -- the graph of the steps
-  pub is_graph : (b : Bound) → IsDesign d → Falls d.options.via (under b) → b.via ≡ d.options.via → route.IsGraph (vertices_of d) (IsStep d n r) (to_stops d b)
-  is_graph b ok falls same = record {
+  pub is_graph : (bounds : List Bound) → IsDesign d → ((b : Bound) → Contains bounds b → IsFairBound d.options.via b) → route.IsGraph (vertices_of d) (IsStep d n r) (to_stops d bounds)
+  is_graph bounds ok fair = record {
     leads = λ v e c in_list step. vertex_listed d e.to ok step.legal.edge.end;
     single = λ v e c k in_list x y. x.sum ∙ sym y.sum;
-    falls = λ v e c in_list step. step_falls v e c step;
+    falls = λ v e c in_list step. stops_fall d bounds v e.to c (λ b listed. step_falls b (fair b listed) v e c step);
+    back = λ v e c in_list step. step_back d n r v e c step;
   }
-    where
-      step_falls : (v : Vertex) (e : Edge) (c : ℕ) → IsStep d n r v e c → to_stops d b v ≤ c + to_stops d b e.to
-      step_falls v e c step = by_kind e.kind step.legal.edge.kind (omega (arith, at_least d n r (edge_cost_of d v e, edge_metal d v e), step.sum))
-        where
-          by_kind : (k : EdgeKind) → FitsKind (track_system_of d) k v e.to → kind_cost d k v e.to ≤ c → to_stops d b v ≤ c + to_stops d b e.to
-          by_kind Along fits le = along_falls d b v e.to c fits.level fits.line (falls v e.to c (inl (record { level = fits.level; cost = le })))
-          by_kind (ByVia k) fits le = via_falls d b v e.to c same (record {
-            point = fits.point;
-            levels = ⊎_elim (λ up. inr up.0) (λ down. inl down.0) fits.levels;
-            cost = le;
-          })
 
 -- the vertices of stops are listed
 pub stops_listed : (d : Design) (n : ℕ) (r : Reading) (entries : List Entry) (stops : List Stop) → IsDesign d → AreNetEntries d n entries → AreStops d n r entries stops → (s : Stop) → Contains stops s → Contains (vertices_of d) s.entry.vertex

@@ -3,9 +3,12 @@ mod CountLemmas
 mod TouchLemmas
 mod GuideLemmas
 mod EntryLists
+mod PositionLemmas
 mod StepLemmas
 mod FitLemmas
 mod VertexLemmas
 mod StopLemmas
+mod BackLemmas
 mod LegalLemmas
 mod TurnLemmas
+mod BoundLemmas

@@ -12,7 +12,7 @@ use Rattle.future_cost.specs.Turns.{is_off, misses, turns}
 use Rattle.future_cost.specs.Under.{under, outside, levels_outside, IsHullOf}
 use Rattle.track_graph.specs.declared.design.Design.{Design}
 use Rattle.track_graph.specs.Levels.{is_horizontal, line_of}
-use Rattle.plain_route.specs.Guided.{to_stops}
+use Rattle.plain_route.specs.Guided.{to_hull}
 
 abbrev one_or_two : Bool → ℕ
 one_or_two only = cond only 2 1
@@ -68,7 +68,7 @@ levels_fall b g h u v next = ⊎_elim
     (turn_cases b g u)
 
 -- over a via the bound falls by the via's cost at most
-pub via_falls : (d : Design) (b : Bound) (u v : Vertex) (c : ℕ) → b.via ≡ d.options.via → IsViaStep d.options.via u v c → to_stops d b u ≤ c + to_stops d b v
+pub via_falls : (d : Design) (b : Bound) (u v : Vertex) (c : ℕ) → b.via ≡ d.options.via → IsViaStep d.options.via u v c → to_hull d b u ≤ c + to_hull d b v
 via_falls d b u v c same step =
     let via : ℕ = d.options.via in
     let lu : ℕ = levels_outside b.bottom b.top u.level in
@@ -94,14 +94,14 @@ same_turns b false u v level line =
     ∙ ap (λ (z : ℤ). if_among (nat_lt v.level b.bottom || nat_lt b.top v.level) (if_off (is_off b.x z) (one_or_two (b.bottom == b.top)))) line
 
 -- along a track the turns stay
-pub along_falls : (d : Design) (b : Bound) (u v : Vertex) (c : ℕ) → u.level ≡ v.level → line_of d.tech u.level u.point ≡ line_of d.tech u.level v.point → under b u ≤ c + under b v → to_stops d b u ≤ c + to_stops d b v
+pub along_falls : (d : Design) (b : Bound) (u v : Vertex) (c : ℕ) → u.level ≡ v.level → line_of d.tech u.level u.point ≡ line_of d.tech u.level v.point → under b u ≤ c + under b v → to_hull d b u ≤ c + to_hull d b v
 along_falls d b u v c level line fall =
     let same : turns b (is_horizontal d.tech u.level) u ≡ turns b (is_horizontal d.tech v.level) v = same_turns b (is_horizontal d.tech u.level) u v level line ∙ ap (λ (l : ℕ). turns b (is_horizontal d.tech l) v) level in
     let product : d.options.via * turns b (is_horizontal d.tech u.level) u ≡ d.options.via * turns b (is_horizontal d.tech v.level) v = ap (λ (t : ℕ). d.options.via * t) same in
     omega (arith, fall, product)
 
 -- at a stop nothing is left
-pub at_stop : (d : Design) (b : Bound) (v : Vertex) (cost : ℕ) → under b v ≡ 0 → turns b (is_horizontal d.tech v.level) v ≡ 0 → to_stops d b v ≤ cost
+pub at_stop : (d : Design) (b : Bound) (v : Vertex) (cost : ℕ) → under b v ≡ 0 → turns b (is_horizontal d.tech v.level) v ≡ 0 → to_hull d b v ≤ cost
 at_stop d b v cost zero none =
     let product : d.options.via * turns b (is_horizontal d.tech v.level) v ≡ d.options.via * 0 = ap (λ (t : ℕ). d.options.via * t) none in
     omega (arith, zero, product)

@@ -1,23 +1,24 @@
 -- The list of a design's vertices.
-use Rattle.std.proofs.Common.{◌≡◌, ⊎_elim, ℕ, zero, suc, ◌+◌, ◌^◌, ◌<◌, ℤ, unsigned_abs, List, [], ◌∷◌, map, flat_map, filter, length, Bool, true, false, cond, ◌&&◌, nat_lt, Contains, refl, sym, subst, ap, ◌∙◌, arith}
+use Rattle.std.proofs.Common.{◌≡◌, ⊎_elim, ℕ, zero, suc, ◌+◌, ◌^◌, ◌<◌, ◌≤◌, ℤ, unsigned_abs, List, [], ◌∷◌, map, flat_map, filter, length, Bool, true, false, cond, ◌&&◌, nat_lt, Contains, refl, sym, subst, ap, ◌∙◌, arith}
 use Rattle.std.proofs.lemmas.Bool.{cases_eq}
 use Rattle.std.proofs.lemmas.Bool.Decides.{nat_tests}
-use Rattle.std.proofs.lemmas.List.Elements.{Contains-append_left, Contains-append_right}
+use Rattle.std.proofs.lemmas.List.Elements.{Contains-append_left, Contains-append_right, Contains-append_cases}
 use Rattle.rt_base.proofs.Lists.{in_cons, none_in}
+use Rattle.rt_base.specs.declared.geometry.Point.{Point}
 use Rattle.rt_base.specs.declared.walk.Vertex.{Vertex}
 use Rattle.rt_base.specs.declared.tech.Tech.{Tech}
 use Rattle.future_cost.specs.Laws.{IsNear}
 use Rattle.track_graph.specs.declared.design.Design.{Design}
 use Rattle.track_graph.specs.Designs.{IsDesign}
-use Rattle.track_graph.specs.Levels.{track_system_of, levels, lines_of, positions_of, along, line_of, vertex_at, IsVertex}
+use Rattle.track_graph.specs.Levels.{track_system_of, levels, lines_of, positions_of, along, line_of, is_horizontal, vertex_at, IsVertex}
 use Rattle.track_graph.proofs.ShapeLemmas.{vertex_within}
 use Rattle.plain_route.specs.Vertices.{crossings, crossings_below, is_near, vertices_of}
 use Rattle.plain_route.proofs.StepLemmas.{vertex_at_place}
 
-here : {X : Type 0} (x : X) (xs : List X) → Contains (x ∷ xs) x
+pub here : {X : Type 0} (x : X) (xs : List X) → Contains (x ∷ xs) x
 here x xs = (0, omega arith, refl)
 
-there : {X : Type 0} (y x : X) (xs : List X) → Contains xs x → Contains (y ∷ xs) x
+pub there : {X : Type 0} (y x : X) (xs : List X) → Contains xs x → Contains (y ∷ xs) x
 there y x xs c = (suc c.0, omega (arith, c.1), c.2)
 
 pub in_map : {X Y : Type 0} (f : X → Y) (xs : List X) (x : X) → Contains xs x → Contains (map f xs) (f x)
@@ -120,3 +121,59 @@ vertex_listed d v ok is =
 -- what is listed is near
 pub listed_near : (d : Design) (v : Vertex) → Contains (vertices_of d) v → IsNear v
 listed_near d v c = test_near v (from_filter is_near (crossings_below d (length (levels d.tech))) v c)
+
+unfiltered : {X : Type 0} (p : X → Bool) (xs : List X) (x : X) → Contains (filter p xs) x → Contains xs x
+unfiltered p [] x c = c
+unfiltered p (y ∷ xs) x c = by_test (p y) c (λ later. there y x xs (unfiltered p xs x later))
+  where
+    by_test : (t : Bool) → Contains (cond t (y ∷ filter p xs) (filter p xs)) x → (Contains (filter p xs) x → Contains (y ∷ xs) x) → Contains (y ∷ xs) x
+    by_test true c rest = ⊎_elim
+        (λ (same : x ≡ y). subst (λ z. Contains (y ∷ xs) z) (sym same) (here y xs))
+        rest
+        (in_cons y (filter p xs) x c)
+    by_test false c rest = rest c
+
+from_map : {X Y : Type 0} (f : X → Y) (xs : List X) (y : Y) → Contains (map f xs) y → (x : X) × Contains xs x × (y ≡ f x)
+from_map f [] y c = absurd (none_in y c)
+from_map f (z ∷ xs) y c = ⊎_elim
+    (λ (e : y ≡ f z). (z, here z xs, e))
+    (λ (later : Contains (map f xs) y). let r = from_map f xs y later in (r.0, there z r.0 xs r.1, r.2))
+    (in_cons (f z) (map f xs) y c)
+
+from_flat_map : {X Y : Type 0} (f : X → List Y) (xs : List X) (y : Y) → Contains (flat_map f xs) y → (x : X) × Contains xs x × Contains (f x) y
+from_flat_map f [] y c = absurd (none_in y c)
+from_flat_map f (z ∷ xs) y c = ⊎_elim
+    (λ (h : Contains (f z) y). (z, here z xs, h))
+    (λ (later : Contains (flat_map f xs) y). let r = from_flat_map f xs y later in (r.0, there z r.0 xs r.1, r.2))
+    (Contains-append_cases (f z) (flat_map f xs) y c)
+
+-- a level, a track of it and a position of it
+pub record IsOnTrack (d : Design) (v : Vertex) : Type 0 where
+  pub level : v.level < length (levels d.tech)
+  pub on_track : Contains (lines_of d.tracks v.level) (line_of d.tech v.level v.point)
+  pub at_position : Contains (positions_of d.tracks v.level) (along d.tech v.level v.point)
+
+placed : (d : Design) (level : ℕ) (line z : ℤ) → level < length (levels d.tech) → Contains (lines_of d.tracks level) line → Contains (positions_of d.tracks level) z → IsOnTrack d (vertex_at d.tech level line z)
+placed d level line z lt a b = record { level = lt; on_track = subst (Contains (lines_of d.tracks level)) (sym (line_is (is_horizontal d.tech level))) a; at_position = subst (Contains (positions_of d.tracks level)) (sym (place_is (is_horizontal d.tech level))) b }
+  where
+    line_is : (h : Bool) → (let p : Point = cond h (record { x = z; y = line }) (record { x = line; y = z }) in cond h p.y p.x) ≡ line
+    line_is true = refl
+    line_is false = refl
+
+    place_is : (h : Bool) → (let p : Point = cond h (record { x = z; y = line }) (record { x = line; y = z }) in cond h p.x p.y) ≡ z
+    place_is true = refl
+    place_is false = refl
+
+from_levels : (d : Design) (count : ℕ) (v : Vertex) → count ≤ length (levels d.tech) → Contains (crossings_below d count) v → IsOnTrack d v
+from_levels d zero v le c = absurd (none_in v c)
+from_levels d (suc count) v le c = ⊎_elim
+    (λ (h : Contains (crossings d.tech count (lines_of d.tracks count) (positions_of d.tracks count)) v).
+    let a = from_flat_map (λ (line : ℤ). map (vertex_at d.tech count line) (positions_of d.tracks count)) (lines_of d.tracks count) v h in
+    let b = from_map (vertex_at d.tech count a.0) (positions_of d.tracks count) v a.2 in
+    subst (IsOnTrack d) (sym b.2) (placed d count a.0 b.0 (omega (arith, le)) a.1 b.1))
+    (λ (h : Contains (crossings_below d count) v). from_levels d count v (omega (arith, le)) h)
+    (Contains-append_cases (crossings d.tech count (lines_of d.tracks count) (positions_of d.tracks count)) (crossings_below d count) v c)
+
+-- what is listed is on a track
+pub listed_on_track : (d : Design) (v : Vertex) → Contains (vertices_of d) v → IsOnTrack d v
+listed_on_track d v c = from_levels d (length (levels d.tech)) v (omega arith) (unfiltered is_near (crossings_below d (length (levels d.tech))) v c)

@@ -1,6 +1,7 @@
 pub mod Senses
 pub mod Roles
 pub mod Ground
+pub mod Positions
 pub mod Steps
 pub mod Stops
 pub mod Fitting

@@ -5,9 +5,10 @@ ghost use Rattle.track_graph.specs.States.{net_state};
 ghost use Rattle.plain_route.specs.Ground.{IsGround};
 ghost use Rattle.plain_route.specs.Senses.{reading_of};
 
+use crate::bounds::bounds_to;
 use crate::entries::{finishes, starts};
 use crate::ground::Ground;
-use crate::guided::{Guided, bound_to};
+use crate::guided::Guided;
 use least_walk::{Tables, least_walk};
 use rt_base::{Memory, Walk};
 use shape_grid::ShapeStore;
@@ -41,7 +42,7 @@ pub fn search<S: ShapeStore>(
     let sources = ground.stops(alloc, starts.as_slice())?;
     let guided = Guided {
         ground,
-        bound: bound_to(alloc, targets.as_slice(), ground.design.options.via)?,
+        bounds: bounds_to(alloc, targets.as_slice(), ground.design.options.via)?,
     };
     least_walk(
         alloc,

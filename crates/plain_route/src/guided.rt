@@ -1,67 +1,70 @@
 //! The graph in which a net's walk is searched for.
-ghost use Rattle.std.specs.Prelude.{◌≡◌, ◌<◌, ◌≤◌, ◌^◌, length, map, All, Contains, IfOk};
-ghost use Rattle.future_cost.specs.Laws.{Falls, IsNear, IsSmall};
+ghost use Rattle.std.specs.Prelude.{◌≡◌, ◌≤◌, All};
+ghost use Rattle.future_cost.specs.Laws.{IsSmall};
 ghost use Rattle.future_cost.specs.Under.{under};
-ghost use Rattle.least_walk.specs.declared.graph.Stop.{Stop as OfStop};
+ghost use Rattle.future_cost.specs.declared.bound.Bound.{Bound as OfBound};
+ghost use Rattle.rt_base.specs.Geometry.{distance};
+ghost use Rattle.track_graph.specs.Edges.{edge_cost_of};
 ghost use Rattle.plain_route.specs.Ground.{IsGround, IsStep};
-ghost use Rattle.plain_route.specs.Guided.{IsAimedAt, to_stops};
+ghost use Rattle.plain_route.specs.Guided.{to_stops};
 ghost use Rattle.plain_route.specs.Senses.{reading_of};
 ghost use Rattle.plain_route.specs.Vertices.{vertices_of};
 
+use crate::bounds::least_bound;
 use crate::ground::Ground;
 use crate::steps::add_steps;
 use future_cost::Bound;
-use least_walk::{Graph, Stop};
-use rt_base::{Edge, Memory, Seq, Vertex};
+use least_walk::Graph;
+use rt_base::{Edge, EdgeKind, Memory, Point, Seq, Vertex};
 use shape_grid::ShapeStore;
-use std::alloc::Global;
-use track_graph::is_level_horizontal;
+use track_graph::Design;
 
-/// The edges that a legal walk may take, and a bound on what is left to the targets.
+/// The edges that a legal walk may take, and bounds on what is left to the targets.
 #[derive(Drop)]
 pub struct Guided<'b, 'a, S> {
     pub ground: &'b Ground<'a, S>,
-    pub bound: Bound,
+    pub bounds: Seq<Bound>,
 }
 
-/// The vertices of these stops.
-fn stop_vertices(alloc: Global, stops: &[Stop]) -> Result<Vec<Vertex>, Memory>
-    ensures { IfOk result (λ vs. vs.items ≡ map (λ (s : OfStop). s.entry.vertex) stops.now) }
+/// The distance of two points, or the largest number of its type if that is less.
+fn apart(p: Point, q: Point) -> u64
+    ensures { result ≤ distance p q }
 {
-    Ok(stops.iter().map(|s| s.entry.vertex).collect(alloc)?)
+    p.x.abs_diff(q.x).saturating_add(p.y.abs_diff(q.y))
 }
 
-/// A bound on the cost from a vertex to any of these stops, at least one.
-pub fn bound_to(alloc: Global, stops: &[Stop], via: u64) -> Result<Bound, Memory>
-    requires some { 0 < length stops.now }
-    requires near { All (λ (s : OfStop). IsNear s.entry.vertex) stops.now }
-    requires via { via ≤ 2 ^ 20 }
-    ensures { IfOk result (IsAimedAt stops.now via) }
+/// What an edge costs at least: as much as where it is not dear.
+fn least_cost(design: &Design, v: Vertex, e: &Edge) -> u64
+    ensures { result ≤ edge_cost_of design.now v e.now }
 {
-    let vertices = stop_vertices(alloc, stops)?;
-    Ok(Bound::new(&vertices, via))
+    match e.kind {
+        EdgeKind::Along => apart(v.point, e.to.point),
+        EdgeKind::Via(_) => design.options.via,
+    }
 }
 
 impl<'b, 'a, S: ShapeStore> Graph for Guided<'b, 'a, S> {
-    ghost IsWhole = { λ g. IsGround g.ground.now.design.now g.ground.now.state.now g.ground.now.net (S.shapes g.ground.now.store.now) × IsSmall (under g.bound) };
+    ghost IsWhole = { λ g. IsGround g.ground.now.design.now g.ground.now.state.now g.ground.now.net (S.shapes g.ground.now.store.now) × All (λ (b : OfBound). IsSmall (under b)) g.bounds };
 
     ghost vertices = { λ g. vertices_of g.ground.now.design.now };
 
     ghost HasEdge = { λ g. IsStep g.ground.now.design.now g.ground.now.net (reading_of g.ground.now.design.now g.ground.now.state.now g.ground.now.net g.ground.now.sense.now) };
 
-    ghost bound_of = { λ g. to_stops g.ground.now.design.now g.bound };
+    ghost bound_of = { λ g. to_stops g.ground.now.design.now g.bounds };
 
     fn edges(&self, from: Vertex, edges: &mut Seq<Edge>) -> Result<(), Memory> {
         add_steps(edges, self.ground.design, from)
     }
 
     fn cost(&self, from: Vertex, edge: &Edge) -> Option<u64> {
-        self.ground.edge_cost(from, edge)
+        self.ground.step_cost(from, edge)
+    }
+
+    fn least(&self, from: Vertex, edge: &Edge) -> u64 {
+        least_cost(self.ground.design, from, edge)
     }
 
     fn bound(&self, from: Vertex) -> u64 {
-        let design = self.ground.design;
-        let horizontal = is_level_horizontal(&design.tech, from.level);
-        self.bound.under(&from) + design.options.via * self.bound.turns(&from, horizontal)
+        least_bound(self.ground.design, self.bounds.as_slice(), &from)
     }
 }

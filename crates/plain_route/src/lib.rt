@@ -2,13 +2,16 @@
 #![tactic(auto)]
 
 mod answer;
+mod bounds;
 mod clash;
 mod entries;
 mod ground;
 mod guide;
 mod guided;
+mod leads;
 mod parts;
 mod plain;
+mod positions;
 mod sense;
 mod steps;
 mod stops;

@@ -1,5 +1,5 @@
 //! What the edges and entries of a walk cost, where a legal walk may have them.
-ghost use Rattle.std.specs.Prelude.{◌≡◌, ◌*◌, ◌^◌, ◌<◌, if◌then◌else◌, All, IfOk, IfSome, IfNone};
+ghost use Rattle.std.specs.Prelude.{◌≡◌, ◌*◌, ◌^◌, ◌<◌, if◌then◌else◌, All, Contains, IfOk, IfSome, IfNone};
 ghost use Rattle.rt_base.specs.Ranges.{IsPointWithin};
 ghost use Rattle.track_graph.specs.Edges.{IsEdge, edge_metal};
 ghost use Rattle.track_graph.specs.Entries.{entry_part};
@@ -10,9 +10,11 @@ ghost use Rattle.track_graph.specs.Searches.{some_conflict, part_cost};
 ghost use Rattle.plain_route.specs.Fitting.{IsFitting, IsUsableVia, has_dear};
 ghost use Rattle.plain_route.specs.Ground.{IsGround, IsLegalEdge, IsStep, IsOpen, IsStopAt};
 ghost use Rattle.plain_route.specs.Senses.{picked, reading_of};
+ghost use Rattle.plain_route.specs.Vertices.{vertices_of};
 
 use crate::ground::Ground;
 use crate::guide::{is_edge_in_guide, is_in_guide};
+use crate::leads::is_edge_from;
 use crate::sense::Sense;
 use rt_base::{Edge, EdgeKind, Entry, Memory, Owner, Point, Shape, Vertex};
 use shape_grid::ShapeStore;
@@ -107,6 +109,23 @@ impl<'a, S: ShapeStore> Ground<'a, S> {
         self.has_dear() && self.meets_any(shapes, true)
     }
 
+    /// What an edge costs in a walk of the net, `None` where no legal walk may take it.
+    fn legal_cost(&self, v: Vertex, e: &Edge) -> Option<u64>
+        requires ground { IsGround self.now.design.now self.now.state.now self.now.net (S.shapes self.now.store.now) }
+        requires edge { IsEdge (track_system_of self.now.design.now) v e.now }
+        ensures some { IfSome result (IsStep self.now.design.now self.now.net (reading_of self.now.design.now self.now.state.now self.now.net self.now.sense.now) v e.now) }
+        ensures none { IfNone result (IsLegalEdge self.now.design.now self.now.net (reading_of self.now.design.now self.now.state.now self.now.net self.now.sense.now) v e.now → ⊥) }
+    {
+        if !is_edge_in_guide(guide_of(self.design, self.net), v, e) {
+            return None;
+        }
+        if self.edge_meets(v, e, false) {
+            return None;
+        }
+        let cost = edge_cost(self.design, v, e);
+        Some(read_cost(cost, self.is_edge_dear(v, e)))
+    }
+
     /// What an edge from a vertex costs in a walk of the net, `None` where no legal walk may take it.
     /// Takes no memory.
     pub fn edge_cost(&self, v: Vertex, e: &Edge) -> Option<u64>
@@ -117,14 +136,21 @@ impl<'a, S: ShapeStore> Ground<'a, S> {
         if !is_edge(self.design, v, e) {
             return None;
         }
-        if !is_edge_in_guide(guide_of(self.design, self.net), v, e) {
+        self.legal_cost(v, e)
+    }
+
+    /// What an edge from one of the design's vertices costs in a walk of the net, `None` where no legal
+    /// walk may take it.
+    pub(crate) fn step_cost(&self, v: Vertex, e: &Edge) -> Option<u64>
+        requires ground { IsGround self.now.design.now self.now.state.now self.now.net (S.shapes self.now.store.now) }
+        requires listed { Contains (vertices_of self.now.design.now) v }
+        ensures some { IfSome result (IsStep self.now.design.now self.now.net (reading_of self.now.design.now self.now.state.now self.now.net self.now.sense.now) v e.now) }
+        ensures none { IfNone result (IsLegalEdge self.now.design.now self.now.net (reading_of self.now.design.now self.now.state.now self.now.net self.now.sense.now) v e.now → ⊥) }
+    {
+        if !is_edge_from(self.design, v, e) {
             return None;
         }
-        if self.edge_meets(v, e, false) {
-            return None;
-        }
-        let cost = edge_cost(self.design, v, e);
-        Some(read_cost(cost, self.is_edge_dear(v, e)))
+        self.legal_cost(v, e)
     }
 
     /// What an entry of the net costs in a walk, `None` where no legal walk may start or finish there.

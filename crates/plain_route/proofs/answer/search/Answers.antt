@@ -1,18 +1,18 @@
 use Rattle.std.proofs.Common.{ℕ, List, Option, Some, None, IfSome, IfNone, IfOk, Result, Ok, Err, Contains, get_or, sym, subst, ◌∙◌}
 use Rattle.std.proofs.lemmas.List.{get_or_default}
+use Rattle.std.proofs.lemmas.List.Elements.{Contains-get_or}
 use Rattle.rt_base.specs.declared.walk.Entry.{Entry}
 use Rattle.rt_base.specs.declared.walk.Walk.{Walk}
 use Rattle.least_walk.specs.declared.graph.Stop.{Stop}
 use Rattle.track_graph.specs.declared.design.Design.{Design}
 use Rattle.track_graph.specs.declared.history.State.{State}
-use Rattle.track_graph.specs.Levels.{is_horizontal}
 use Rattle.track_graph.specs.NetWalks.{IsNetEntry}
 use Rattle.track_graph.specs.Searches.{Reading, IsStart, IsFinish}
 use Rattle.track_graph.specs.States.{net_state}
 use Rattle.plain_route.specs.Senses.{reading_of}
 use Rattle.plain_route.specs.Stops.{AreEntries, AreStops}
 use Rattle.plain_route.proofs.LegalLemmas.{least_from_route, none_from_routes, none_without, is_graph, stops_listed}
-use Rattle.plain_route.proofs.TurnLemmas.{at_stop}
+use Rattle.plain_route.proofs.BoundLemmas.{stops_end}
 use Rattle.plain_route.proofs.VertexLemmas.{listed_near}
 use Rattle.plain_route.proofs.answer.search.Goals as goal
 
@@ -40,8 +40,8 @@ returns-then-is_empty-clause-none g c =
 pub stops-requires-2-clause-entries : goal.stops-requires-2-clause-entries
 stops-requires-2-clause-entries g c e h = c.in_ok-starts.ensures.fit e (subst (λ (es : List Entry). Contains es e) c.as_slice-2.ensures h)
 
-pub bound_to-requires-clause-near : goal.bound_to-requires-clause-near
-bound_to-requires-clause-near g c k x lt =
+pub bounds_to-requires-clause-near : goal.bounds_to-requires-clause-near
+bounds_to-requires-clause-near g c k x lt =
     let d = c.args.ground.now.design.now in
     let till = c.in_ok-targets.ensures in
     let fit : (e : Entry) → Contains c.as_slice.result.now e → IsNetEntry d c.args.ground.now.net e = λ e h. c.in_ok-finishes.ensures.fit e (subst (λ (es : List Entry). Contains es e) c.as_slice.ensures h) in
@@ -49,10 +49,15 @@ bound_to-requires-clause-near g c k x lt =
     let in_targets : Contains c.in_ok-targets.targets t = subst (λ (ts : List Stop). Contains ts t) c.as_slice-3.ensures (k, lt, get_or_default c.as_slice-3.result.now k t x lt) in
     listed_near d t.entry.vertex (stops_listed d c.args.ground.now.net (reading_of d c.args.ground.now.state.now c.args.ground.now.net c.args.ground.now.sense.now) c.as_slice.result.now c.in_ok-targets.targets c.requires.design fit till t in_targets)
 
+pub least_walk-requires-clause-whole : goal.least_walk-requires-clause-whole
+least_walk-requires-clause-whole g c =
+    let bounds = c.in_ok-bounds_to.field-0 in
+    (c.requires, λ k x lt. (c.in_ok-bounds_to.ensures.fair (get_or bounds k x) (Contains-get_or bounds k x lt)).small)
+
 pub least_walk-requires-clause-graph : goal.least_walk-requires-clause-graph
 least_walk-requires-clause-graph g c =
     let d = c.args.ground.now.design.now in
-    is_graph d c.args.ground.now.net (reading_of d c.args.ground.now.state.now c.args.ground.now.net c.args.ground.now.sense.now) c.in_ok-bound_to.field-0 c.requires.design c.in_ok-bound_to.ensures.falls c.in_ok-bound_to.ensures.via_is
+    is_graph d c.args.ground.now.net (reading_of d c.args.ground.now.state.now c.args.ground.now.net c.args.ground.now.sense.now) c.in_ok-bounds_to.field-0 c.requires.design c.in_ok-bounds_to.ensures.fair
 
 pub least_walk-requires-clause-sources : goal.least_walk-requires-clause-sources
 least_walk-requires-clause-sources g c s h =
@@ -64,10 +69,12 @@ pub least_walk-requires-clause-targets : goal.least_walk-requires-clause-targets
 least_walk-requires-clause-targets g c =
     let d = c.args.ground.now.design.now in
     let fit : (e : Entry) → Contains c.as_slice.result.now e → IsNetEntry d c.args.ground.now.net e = λ e x. c.in_ok-finishes.ensures.fit e (subst (λ (es : List Entry). Contains es e) c.as_slice.ensures x) in
-    let b = c.in_ok-bound_to.field-0 in
+    let bounds = c.in_ok-bounds_to.field-0 in
     record {
       within = λ t h. stops_listed d c.args.ground.now.net (reading_of d c.args.ground.now.state.now c.args.ground.now.net c.args.ground.now.sense.now) c.as_slice.result.now c.in_ok-targets.targets c.requires.design fit c.in_ok-targets.ensures t (subst (λ (ts : List Stop). Contains ts t) c.as_slice-5.ensures h);
-      bounded = λ t h. at_stop d b t.entry.vertex t.cost (c.in_ok-bound_to.ensures.zero t (subst (λ (ts : List Stop). Contains ts t) (c.as_slice-5.ensures ∙ sym c.as_slice-3.ensures) h)) (c.in_ok-bound_to.ensures.turned (is_horizontal d.tech t.entry.vertex.level) t (subst (λ (ts : List Stop). Contains ts t) (c.as_slice-5.ensures ∙ sym c.as_slice-3.ensures) h));
+      bounded = λ t h.
+          let its = c.in_ok-bounds_to.ensures.zero t (subst (λ (ts : List Stop). Contains ts t) (c.as_slice-5.ensures ∙ sym c.as_slice-3.ensures) h) in
+          stops_end d bounds t its.0 its.1 its.2;
     }
 
 pub returns-clause-least : goal.returns-clause-least

@@ -1,4 +1,4 @@
-use Rattle.std.proofs.Common.{◌+◌, ℤ, List, length, Contains, Result, Ok, Err, OnOk, subst}
+use Rattle.std.proofs.Common.{◌+◌, ◌++◌, ℤ, List, length, Contains, Result, Ok, Err, OnOk, subst}
 use Rattle.rt_base.specs.declared.walk.Edge.{Edge}
 use Rattle.track_graph.specs.Edges.{IsEdge}
 use Rattle.track_graph.specs.Levels.{lines_of, lines_below, track_system_of}
@@ -14,7 +14,8 @@ pub returns : goal.returns
 returns c =
     let d = c.args.design.now in
     let v = c.args.v in
-    let under : HasNeighbours d.tech v (lines_below d.tracks v.level) c.args.edges.now c.add_neighbours.new.edges = subst (λ (ls : List ℤ). HasNeighbours d.tech v ls c.args.edges.now c.add_neighbours.new.edges) c.lines_under.ensures c.in_ok-add_neighbours.ensures in
-    let over : HasNeighbours d.tech v (lines_of d.tracks (v.level + 1)) c.add_neighbours.new.edges c.add_neighbours-2.new.edges = subst (λ (ls : List ℤ). HasNeighbours d.tech v ls c.add_neighbours.new.edges c.add_neighbours-2.new.edges) c.level_lines.ensures c.in_ok-add_neighbours-2.ensures in
-    let cover : HasVias d.tech v (length d.tech.vias) c.add_neighbours-2.new.edges c.add_vias.new.edges → (e : Edge) → IsEdge (track_system_of d) v e → Contains c.add_vias.new.edges e = λ vias. steps_cover d v c.args.edges.now c.add_neighbours.new.edges c.add_neighbours-2.new.edges c.add_vias.new.edges c.requires under over vias in
+    let near : HasNeighbours d.tech v (lines_below d.tracks v.level ++ lines_of d.tracks (v.level + 1)) c.args.edges.now c.add_neighbours.new.edges =
+    subst (λ (ls : List ℤ). HasNeighbours d.tech v (ls ++ lines_of d.tracks (v.level + 1)) c.args.edges.now c.add_neighbours.new.edges) c.lines_under-under.ensures
+    (subst (λ (ls : List ℤ). HasNeighbours d.tech v (c.lines_under-under.result.now ++ ls) c.args.edges.now c.add_neighbours.new.edges) c.level_lines-over.ensures c.in_ok-add_neighbours.ensures) in
+    let cover : HasVias d.tech v (length d.tech.vias) c.add_neighbours.new.edges c.add_vias.new.edges → (e : Edge) → IsEdge (track_system_of d) v e → Contains c.add_vias.new.edges e = λ vias. steps_cover d v c.args.edges.now c.add_neighbours.new.edges c.add_vias.new.edges c.requires near vias in
     ok_then c.add_vias.result _ _ cover c.add_vias.ensures

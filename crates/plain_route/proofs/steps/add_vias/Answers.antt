@@ -13,7 +13,7 @@ loop-k-preserved c =
     let read : slice_get c.as_slice-via-items.result.now c.loop-k.k ≡ Some c.via-item.result =
     slice_get_read c.as_slice-via-items.result.now (length c.as_slice-via-items.result.now) c.loop-k.k c.via-item.result refl c.loop-k-test.true c.via-item.is in
     let at : slice_get c.args.tech.now.vias c.loop-k.k ≡ Some c.via-item.result = subst (λ (vs : List Via). slice_get vs c.loop-k.k ≡ Some c.via-item.result) c.as_slice-via-items.ensures read in
-    vias-more c.args.tech.now c.args.v c.loop-k.k c.via-item.result c.args.edges.now c.loop-k.edges c.add_via.new.edges at c.loop-k.invariant c.in_ok-add_via.ensures
+    vias-more c.args.tech.now c.args.v c.loop-k.k c.via-item.result c.near_layers-layers.result at c.near_layers-layers.ensures c.args.edges.now c.loop-k.edges c.add_via.new.edges c.loop-k.invariant c.in_ok-add_via.ensures
 
 pub returns : goal.returns
 returns c =

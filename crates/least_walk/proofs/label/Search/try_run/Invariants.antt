@@ -1,0 +1,5 @@
+use Rattle.least_walk.specs.Ends.{IsUnderway}
+use Rattle.least_walk.proofs.label.Search.try_run.Given as goal
+
+abbrev pub invariant-steps : goal.invariant-steps
+invariant-steps g l = IsUnderway (g.G.Graph.vertices l.graph) (g.G.Graph.HasEdge l.graph) (g.G.Graph.bound_of l.graph) l.sources l.targets l.self l.best
