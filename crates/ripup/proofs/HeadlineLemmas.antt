@@ -8,7 +8,7 @@ use Rattle.track_graph.specs.Histories.{IsFinishedHistory, IsRight, IsHistory}
 use Rattle.track_graph.specs.Rules.{BreaksNoRule}
 use Rattle.track_graph.specs.States.{first_state, state_of, standing}
 use Rattle.track_graph.proofs.Rules.{IsHistory-breaks_no_rule, conflict_flip}
-use Rattle.ripup.specs.Headline.{BeginsWith, StandsBehind, NoneConflict, IsClearAtAnyTime, IsLeastAtItsPlace, IsStuckForWant, IsHeadline}
+use Rattle.ripup.specs.Headline.{BeginsWith, StandsBehind, NoneConflict, IsClearAtAnyTime, IsLeastAtItsPlace, AreRippedForWant, IsStuckForWant, IsHeadline}
 use Rattle.ripup.proofs.HistoryLemmas.{history-parts}
 use Rattle.ripup.proofs.MarkLemmas.{IsFinishedHistory-marked}
 
@@ -42,6 +42,11 @@ history-least d blocks h = record {
   rip_for = λ before n soft ripped w stands. (IsHistory-right d blocks before _ h stands).walk;
 }
 
+history-rips : (d : Design) (blocks : List Block) → IsHistory d blocks → AreRippedForWant d blocks
+history-rips d blocks h before n soft ripped w stands =
+    let right = IsHistory-right d blocks before _ h stands in
+    record { none = right.none; soft_least = right.soft_least; exactly = right.ripped_exactly; some = right.some_ripped }
+
 history-stuck : (d : Design) (blocks : List Block) → IsHistory d blocks → IsStuckForWant d blocks
 history-stuck d blocks h before n stands =
     let right = IsHistory-right d blocks before _ h stands in
@@ -52,6 +57,7 @@ pub IsFinishedHistory-headline : (d : Design) (blocks : List Block) → IsFinish
 IsFinishedHistory-headline d blocks h = record {
   clear = history-clear d blocks h.history;
   least = history-least d blocks h.history;
+  rips = history-rips d blocks h.history;
   stuck = history-stuck d blocks h.history;
   marked = IsFinishedHistory-marked d blocks h;
 }

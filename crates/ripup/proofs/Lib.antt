@@ -4,5 +4,9 @@ pub mod HistoryLemmas
 pub mod HeadlineLemmas
 pub mod MarkLemmas
 pub mod SearchLemmas
+pub mod BlockLists
+pub mod TakenLemmas
+pub mod EffortLemmas
 pub mod ProgressLemmas
 pub mod OrderLemmas
+pub mod TurnLemmas

@@ -13,11 +13,11 @@ use Rattle.track_graph.specs.States.{after, emptied, emptied_net, first_state, f
 use Rattle.track_graph.proofs.StateLemmas.{blank, net_state-other}
 use Rattle.ripup.specs.Headline.{AreMarked, StandsBehind}
 
-abbrev at : List NetState → ℕ → NetState
+abbrev pub at : List NetState → ℕ → NetState
 at nets n = unwrap_or (slice_get nets n) blank
 
 -- what holds of a net's old and new state holds after the change of one net
-set-at : (P : NetState → Type 0) (nets : List NetState) (m n : ℕ) (new : NetState) → P new → P (at nets n) → P (at (slice_set nets m new) n)
+pub set-at : (P : NetState → Type 0) (nets : List NetState) (m n : ℕ) (new : NetState) → P new → P (at nets n) → P (at (slice_set nets m new) n)
 set-at P [] m n new p h = h
 set-at P (x ∷ xs) zero zero new p h = p
 set-at P (x ∷ xs) zero (suc n) new p h = h

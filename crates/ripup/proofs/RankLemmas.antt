@@ -1,5 +1,5 @@
 -- The routable nets with their extents, and what sorting them gives.
-use Rattle.std.proofs.Common.{◌≡◌, ◌∙◌, ◌⊎◌, ⊎_elim, inl, inr, ℕ, zero, suc, ◌+◌, ◌<◌, ◌≤◌, ◌==◌, List, [], ◌∷◌, ◌++◌, Bool, true, false, cond, Some, Option, option_map, unwrap_or, ap, subst, refl, sym, length, map, get_or, slice_get, flat_map, sum_by, All, Contains, zero-add, arith}
+use Rattle.std.proofs.Common.{◌≡◌, ◌∙◌, ◌⊎◌, ⊎_elim, inl, inr, ℕ, zero, suc, ◌+◌, ◌-◌, ◌<◌, ◌≤◌, ◌==◌, List, [], ◌∷◌, ◌++◌, Bool, true, false, cond, Some, Option, option_map, unwrap_or, ap, subst, refl, sym, length, map, get_or, reverse, slice_get, flat_map, sum_by, All, Contains, zero-add, arith}
 use Rattle.std.specs.List.{AllPairs}
 use Rattle.std.specs.List.Sorted.{IsPermutation, IsSorted}
 use Rattle.std.specs.Ordering.{nat_cmp, ordering_then, is_lt}
@@ -8,11 +8,11 @@ use Rattle.std.specs.declared.cmp.Ordering.TheVariants.{Less, Equal}
 use Rattle.std.proofs.lemmas.Bool.{cases_eq, cases_lt}
 use Rattle.std.proofs.lemmas.Bool.Decides.{nat_tests}
 use Rattle.std.proofs.lemmas.Cmp.{then_total, on_total, nat_cmp_total}
-use Rattle.std.proofs.lemmas.List.{get_or-map, length-map}
-use Rattle.std.proofs.lemmas.List.Elements.{All-nil, All-contains, All-push, Contains-get_or, Contains-append_left, Contains-append_right}
+use Rattle.std.proofs.lemmas.List.{get_or-map, get_or-reverse, length-map, length-reverse}
+use Rattle.std.proofs.lemmas.List.Elements.{All-nil, All-contains, All-map, All-push, Contains-get_or, Contains-append_left, Contains-append_right}
 use Rattle.std.proofs.lemmas.List.Sums.{sum_by-cons}
 use Rattle.std.proofs.lemmas.List.Quantifiers.{all_pairs_push}
-use Rattle.std.proofs.lemmas.List.Sorted.{All-permutation, ranks_by, sorted_far, sum_by-IsPermutation, Contains-permutation}
+use Rattle.std.proofs.lemmas.List.Sorted.{All-permutation, ranks_by, sorted_far, sum_by-IsPermutation, Contains-permutation, IsPermutation-map, IsPermutation-reverse, IsPermutation-trans}
 use Rattle.std.proofs.lemmas.Option.{same_Some}
 use Rattle.track_graph.specs.declared.design.Design.{Design}
 use Rattle.track_graph.specs.declared.design.Net.{Net}
@@ -22,7 +22,7 @@ use Rattle.track_graph.specs.declared.design.NetKind.TheVariants.{Routable}
 use Rattle.track_graph.specs.Histories.{IsRoutable}
 use Rattle.track_graph.specs.Orders.{hull_extent, net_extent, IsBefore, IsOrder}
 use Rattle.track_graph.proofs.WalkLemmas.{routable_within}
-use Rattle.ripup.specs.Hulls.{IsRank, AreRanked}
+use Rattle.ripup.specs.Hulls.{rank_of, AreRanked, IsBeforeOrSame, IsLastFirst, IsRank}
 
 pub AreRanked-none : (d : Design) → AreRanked d 0 []
 AreRanked-none d = record {
@@ -192,3 +192,40 @@ not_routable-at d n net at other r = other (same_Some _ _ (sym (ap (λ (o : Opti
 
 pub extent-at : (d : Design) (n : ℕ) (net : Net) → slice_get d.nets n ≡ Some net → hull_extent (flat_map (λ (pin : Pin). pin.rects) net.pins) ≡ net_extent d n
 extent-at d n net at = sym (ap (λ (o : Option Net). hull_extent (flat_map (λ (pin : Pin). pin.rects) (unwrap_or (option_map (λ (x : Net). x.pins) o) []))) at)
+
+numbers-of_ranks : (d : Design) (nets : List ℕ) → map number_of (map (rank_of d) nets) ≡ nets
+numbers-of_ranks d [] = refl
+numbers-of_ranks d (n ∷ nets) = ap (λ (ns : List ℕ). n ∷ ns) (numbers-of_ranks d nets)
+
+abbrev IsRankOf : Design → ℕ × ℕ → Type 0
+IsRankOf d rank = rank.0 ≡ net_extent d rank.1
+
+-- of two nets that stand sorted by extent and number the first one is before the other, or the same
+before_or_same : (d : Design) (a b : ℕ × ℕ) → IsRankOf d a → IsRankOf d b → (a.0 < b.0) ⊎ ((a.0 ≡ b.0) × (a.1 ≤ b.1)) → IsBeforeOrSame d a.1 b.1
+before_or_same d a b first second h = ⊎_elim
+    (λ (less : a.0 < b.0). inl (inl (subst (λ (m : ℕ). m < net_extent d b.1) first (subst (λ (m : ℕ). a.0 < m) second less))))
+    (λ (tie : (a.0 ≡ b.0) × (a.1 ≤ b.1)). ⊎_elim
+    (λ (e : a.1 ≡ b.1). inr e)
+    (λ (other : a.1 ≡ b.1 → ⊥). inl (inr (sym first ∙ tie.0 ∙ second, below_other a.1 b.1 other tie.1)))
+    (cases_eq a.1 b.1))
+    h
+
+-- nets sorted by extent and number, and turned round
+pub IsLastFirst-sorted : (d : Design) (nets : List ℕ) (sorted : List (ℕ × ℕ)) → IsPermutation (map (rank_of d) nets) sorted → IsSorted (λ a b. ordering_then (nat_cmp a.0 b.0) (nat_cmp a.1 b.1)) sorted → IsLastFirst d nets (map number_of (reverse sorted))
+IsLastFirst-sorted d nets sorted moved up =
+    let only : All (IsRankOf d) sorted = All-permutation (IsRankOf d) (map (rank_of d) nets) sorted moved (All-map (IsRankOf d) (rank_of d) nets (λ k x l. refl)) in
+    record {
+      same = subst (λ (ns : List ℕ). IsPermutation ns (map number_of (reverse sorted))) (numbers-of_ranks d nets)
+          (IsPermutation-map number_of (map (rank_of d) nets) (reverse sorted) (IsPermutation-trans (map (rank_of d) nets) sorted (reverse sorted) moved (IsPermutation-reverse sorted)));
+      order = λ i j x lt l.
+          let past : j < length sorted = subst (λ (m : ℕ). j < m) (length-map (reverse sorted) number_of ∙ length-reverse sorted) l in
+          let p : ℕ = length sorted - 1 - i in
+          let q : ℕ = length sorted - 1 - j in
+          let at : (k : ℕ) → k < length sorted → get_or (map number_of (reverse sorted)) k x ≡ (get_or sorted (length sorted - 1 - k) (0, 0)).1 = λ k within.
+          get_or-map number_of (reverse sorted) k (0, 0) x (subst (λ (m : ℕ). k < m) (sym (length-reverse sorted)) within) ∙ ap number_of (get_or-reverse sorted k (0, 0) within) in
+          let before : IsBeforeOrSame d (get_or sorted q (0, 0)).1 (get_or sorted p (0, 0)).1 =
+          before_or_same d (get_or sorted q (0, 0)) (get_or sorted p (0, 0)) (only q (0, 0) (omega arith)) (only p (0, 0) (omega arith))
+          (not_after (get_or sorted q (0, 0)).0 (get_or sorted p (0, 0)).0 (get_or sorted q (0, 0)).1 (get_or sorted p (0, 0)).1 (pair_cmp_far sorted up q p (0, 0) (omega arith) (omega arith))) in
+          subst (λ (m : ℕ). IsBeforeOrSame d m (get_or (map number_of (reverse sorted)) i x)) (sym (at j past))
+          (subst (λ (m : ℕ). IsBeforeOrSame d (get_or sorted q (0, 0)).1 m) (sym (at i (omega arith))) before);
+    }

@@ -1,14 +1,17 @@
--- Where no net may be ripped nothing is soft.
-use Rattle.std.proofs.Common.{◌≡◌, ◌∙◌, ℕ, ◌+◌, List, [], ◌∷◌, ◌++◌, Bool, true, false, cond, ◌&&◌, ◌==◌, not, refl, ap, subst, arith, nat_lt}
+-- Where no net may be ripped nothing is soft; where a soft walk is legal, a walk is without the nets that it crosses.
+use Rattle.std.proofs.Common.{◌≡◌, ◌∙◌, ℕ, ◌+◌, List, [], ◌∷◌, ◌++◌, Bool, true, false, cond, ◌&&◌, ◌==◌, not, refl, ap, sym, subst, arith, nat_lt, Option, None, IfNone}
 use Rattle.std.proofs.lemmas.Bool.Decides.{nat_tests}
 use Rattle.rt_base.specs.declared.tech.Shape.{Shape}
-use Rattle.track_graph.specs.Readings.{hard_reading, may_rip, soft_reading}
+use Rattle.rt_base.specs.declared.walk.Walk.{Walk}
+use Rattle.track_graph.specs.Histories.{crossed_from, IsRipRight, IsWaiting}
+use Rattle.track_graph.specs.Readings.{hard_reading, may_rip, reading_without, soft_reading}
 use Rattle.track_graph.specs.declared.design.Design.{Design}
 use Rattle.track_graph.specs.declared.history.NetState.{NetState}
 use Rattle.track_graph.specs.declared.history.State.{State}
-use Rattle.track_graph.specs.Searches.{some_conflict, NoneLegal}
+use Rattle.track_graph.specs.Searches.{some_conflict, IsLeast, IsLegal, NoneLegal}
 use Rattle.track_graph.specs.States.{every_net, net_shapes, net_state, standing_from}
 use Rattle.track_graph.specs.Walks.{walk_shapes_of}
+use Rattle.crossed_nets.proofs.CrossedLemmas.{crossed-some, legal-without}
 
 none_below : (n : ℕ) → nat_lt n 0 ≡ false
 none_below n = grind (arith, nat_tests)
@@ -37,3 +40,22 @@ NoneLegal-soft d s n no_rips none v legal = none v (record {
   inside = legal.inside;
   clear = subst (λ (ss : List Shape). some_conflict d.tech (walk_shapes_of d n v) (d.fixed ++ ss) ≡ false) (standing-forbids d n 0 s.nets no_rips) legal.clear;
 })
+
+-- without the nets that a soft walk crosses some walk is legal
+pub some-without : (d : Design) (s : State) (n : ℕ) (soft : Walk) (ripped : List ℕ) (found : Option Walk) → IsLegal d n (net_state s n) (soft_reading d s n) soft → ripped ≡ crossed_from d n soft 0 s.nets
+    → IfNone found (NoneLegal d n (net_state s n) (reading_without d s ripped)) → found ≡ None → ⊥
+some-without d s n soft ripped found legal crossed none is =
+    let none_at_all : NoneLegal d n (net_state s n) (reading_without d s ripped) = subst (λ (o : Option Walk). IfNone o (NoneLegal d n (net_state s n) (reading_without d s ripped))) is none in
+    none_at_all soft (subst (λ (absent : List ℕ). IsLegal d n (net_state s n) (reading_without d s absent) soft) (sym crossed) (legal-without d s n (net_state s n) soft legal))
+
+-- what is found with the nets emptied that a least soft walk crosses is right
+pub rip-right : (d : Design) (s : State) (n : ℕ) (soft : Walk) (ripped : List ℕ) (w : Walk) → IsWaiting d s n → NoneLegal d n (net_state s n) (hard_reading d s) → IsLeast d n (net_state s n) (soft_reading d s n) soft
+    → ripped ≡ crossed_from d n soft 0 s.nets → IsLeast d n (net_state s n) (reading_without d s ripped) w → IsRipRight d s n soft ripped w
+rip-right d s n soft ripped w waiting none soft_least crossed least = record {
+  waiting = waiting;
+  none = none;
+  soft_least = soft_least;
+  ripped_exactly = crossed;
+  some_ripped = λ e. crossed-some d s n (net_state s n) soft none soft_least.legal (sym crossed ∙ e);
+  walk = least;
+}

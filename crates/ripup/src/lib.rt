@@ -1,6 +1,7 @@
 //! The order in which nets are taken, and routing on one thread.
 #![tactic(auto)]
 
+mod choice;
 mod extent;
 mod net_order;
 mod one_thread;

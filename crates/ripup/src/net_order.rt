@@ -1,7 +1,8 @@
 //! The order in which nets are taken.
-ghost use Rattle.std.specs.Prelude.{◌≡◌, ◌<◌, ◌^◌, length, map, IfOk};
+ghost use Rattle.std.specs.Prelude.{◌≡◌, ◌<◌, ◌^◌, length, map, All, IfOk};
+ghost use Rattle.track_graph.specs.Conditions.{IsNetOf};
 ghost use Rattle.track_graph.specs.Orders.{IsOrder};
-ghost use Rattle.ripup.specs.Hulls.{AreRanked};
+ghost use Rattle.ripup.specs.Hulls.{rank_of, AreRanked, IsLastFirst};
 
 use crate::extent::extent;
 use rt_base::Memory;
@@ -22,11 +23,35 @@ fn ranked_nets(alloc: Global, design: &Design) -> Result<Vec<(u128, u32)>, Memor
     Ok(ranks)
 }
 
+/// The numbers of these nets, each behind its extent.
+fn ranks_of(alloc: Global, design: &Design, nets: &[u32]) -> Result<Vec<(u128, u32)>, Memory>
+    requires { All (IsNetOf design.now) nets.now }
+    ensures { IfOk result (λ ranks. ranks.items ≡ map (rank_of design.now) nets.now) }
+{
+    let of_design = design.nets.as_slice();
+    let mut ranks = Vec::new(alloc);
+    for net in nets {
+        ranks.push((extent(&of_design[*net as usize]), *net))?;
+    }
+    Ok(ranks)
+}
+
 /// The numbers of these nets.
 fn numbers(alloc: Global, ranks: &[(u128, u32)]) -> Result<Vec<u32>, Memory>
     ensures { IfOk result (λ nets. nets.items ≡ map (λ rank. rank.1) ranks.now) }
 {
     Ok(ranks.iter().map(|rank| rank.1).collect(alloc)?)
+}
+
+/// These nets in the order in which nets are taken, the first one last.
+pub(crate) fn last_first(alloc: Global, design: &Design, nets: &[u32]) -> Result<Vec<u32>, Memory>
+    requires { All (IsNetOf design.now) nets.now }
+    ensures { IfOk result (λ sorted. IsLastFirst design.now nets.now sorted.items) }
+{
+    let mut ranks = ranks_of(alloc, design, nets)?;
+    ranks.sort_unstable();
+    ranks.reverse();
+    numbers(alloc, &ranks)
 }
 
 /// The routable nets in the order in which they are taken: ascending by half the perimeter of the

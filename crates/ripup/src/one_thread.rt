@@ -15,14 +15,16 @@ use std::alloc::Global;
 use track_graph::{Design, Journal, fold};
 
 /// Goes on with a history until it is finished: the routable nets are taken in their order, and
-/// each gets one least wire after the other until all its pins are joined or it has no legal walk
-/// left, when it is marked stuck. No net is ripped.
+/// each gets one least wire after the other until all its pins are joined. Where no walk is legal,
+/// exactly the nets are ripped that a least soft walk crosses, and the wire is least without them;
+/// where there is no soft walk either, the net is marked stuck. Nets that were ripped are taken
+/// before the next of the order: when the net for which they were ripped is done, the ones ripped
+/// last first, and of those that one block rips the first one in the order.
 ///
-/// Fails only where memory runs out.
+/// It ends, since no net is ripped more often than the user allows. Fails only where memory runs out.
 pub fn finish(alloc: Global, design: &Design, journal: Journal) -> Result<Journal, Memory>
     requires design { IsDesign design.now }
     requires history { IsHistory design.now journal.blocks }
-    requires rips { design.now.options.rips ≡ 0 }
     ensures finished { IfOk result (λ j. IsFinishedHistory design.now j.blocks) }
     ensures begins { IfOk result (λ j. BeginsWith j.blocks journal.blocks) }
     ensures headline { IfOk result (λ j. IsHeadline design.now j.blocks) }
@@ -40,7 +42,7 @@ pub fn finish(alloc: Global, design: &Design, journal: Journal) -> Result<Journa
         tables,
     };
     for net in order(alloc, design)?.as_slice() {
-        run.route(alloc, design, *net)?;
+        run.settle(alloc, design, *net)?;
     }
     let Progress { journal, .. } = run;
     Ok(journal)

@@ -1,17 +1,16 @@
 //! A run under way.
-ghost use Rattle.std.specs.Prelude.{◌≡◌, ◌≢◌, ℕ, ◌<◌, ◌++◌, ◌∷◌, [], length, IfOk, IfSome, IfNone, OnOk};
-ghost use Rattle.ripup.specs.Progress.{is_waiting, AddsOf, IsBlockFor, IsDone, IsUnderWay};
-ghost use Rattle.standing_shapes.specs.Standing.{AreShapesOf};
+ghost use Rattle.std.specs.Prelude.{◌≡◌, ◌⊎◌, ℕ, ◌<◌, ◌++◌, ◌∷◌, [], length, All, OnOk};
+ghost use Rattle.ripup.specs.Hulls.{AreTakenNext};
+ghost use Rattle.ripup.specs.Progress.{is_waiting, ripped_by, AddsFor, IsDone, IsTurn, IsUnderWay};
+ghost use Rattle.track_graph.specs.Conditions.{IsNetOf};
 ghost use Rattle.track_graph.specs.Designs.{IsDesign};
-ghost use Rattle.track_graph.specs.Histories.{IsRight, IsRoutable, IsWaiting};
-ghost use Rattle.track_graph.specs.Conditions.{IsStateOf};
-ghost use Rattle.track_graph.specs.Readings.{hard_reading};
-ghost use Rattle.track_graph.specs.Searches.{IsLeast, NoneLegal};
+ghost use Rattle.track_graph.specs.Histories.{IsRight, IsRoutable};
 ghost use Rattle.track_graph.specs.States.{after, net_state};
 
+use crate::choice::next_block;
+use crate::net_order::last_first;
 use least_walk::Tables;
-use plain_route::{Ground, Sense, search};
-use rt_base::{Memory, Walk};
+use rt_base::Memory;
 use shape_grid::Tile;
 use standing_shapes::add_block;
 use std::alloc::Global;
@@ -35,54 +34,21 @@ fn is_waiting(state: &State, net: u32) -> bool
     !net.stuck && !net.all_joined()
 }
 
-/// A least wire of a net, or none where no walk is legal.
-fn next_walk(
+/// Adds the nets that a block rips to those that are to be taken, of which the last one comes next.
+fn push_ripped(
     alloc: Global,
     design: &Design,
-    state: &State,
-    store: &Tile,
-    net: u32,
-    tables: &mut Tables,
-) -> Result<Option<Walk>, Memory>
-    requires design { IsDesign design.now }
-    requires state { IsStateOf design.now state.now }
-    requires stored { AreShapesOf design.now state.now store.now }
-    requires net { IsRoutable design.now net }
-    ensures least { IfOk result (λ w. IfSome w (IsLeast design.now net (net_state state.now net) (hard_reading design.now state.now))) }
-    ensures none { IfOk result (λ w. IfNone w (NoneLegal design.now net (net_state state.now net) (hard_reading design.now state.now))) }
+    block: &Block,
+    todo: &mut Vec<u32>,
+) -> Result<(), Memory>
+    requires { All (IsNetOf design.now) (ripped_by block.now) }
+    ensures { OnOk result (AreTakenNext design.now (ripped_by block.now) todo.new.items todo.old.items) }
 {
-    let sense = Sense::Hard;
-    let ground = Ground {
-        design,
-        state,
-        store,
-        net,
-        sense: &sense,
-    };
-    search(alloc, &ground, tables)
-}
-
-/// What comes next for a net: a least wire, or the mark where no walk is legal.
-fn next_block(
-    alloc: Global,
-    design: &Design,
-    state: &State,
-    store: &Tile,
-    net: u32,
-    tables: &mut Tables,
-) -> Result<Block, Memory>
-    requires design { IsDesign design.now }
-    requires rips { design.now.options.rips ≡ 0 }
-    requires state { IsStateOf design.now state.now }
-    requires stored { AreShapesOf design.now state.now store.now }
-    requires waiting { IsWaiting design.now state.now net }
-    ensures right { IfOk result (λ b. IsRight design.now state.now b) }
-    ensures net { IfOk result (λ b. IsBlockFor net b) }
-{
-    match next_walk(alloc, design, state, store, net, tables)? {
-        Some(walk) => Ok(Block::Wire { net, walk }),
-        None => Ok(Block::Stuck { net }),
+    if let Block::RipFor { ripped, .. } = block {
+        let nets = last_first(alloc, design, ripped.as_slice())?;
+        todo.extend_from_slice(&nets)?;
     }
+    Ok(())
 }
 
 impl Progress {
@@ -102,27 +68,54 @@ impl Progress {
         Ok(())
     }
 
-    /// Adds wires of a net until all its pins are joined, or marks it where it has no legal walk left.
-    pub fn route(&mut self, alloc: Global, design: &Design, net: u32) -> Result<(), Memory>
+    /// A turn of a net that was taken from those that are to be taken: where it is waiting it gets a
+    /// block, and it is put back to come next, and behind it the nets that the block rips.
+    fn turn(
+        &mut self,
+        alloc: Global,
+        design: &Design,
+        net: u32,
+        todo: &mut Vec<u32>,
+    ) -> Result<(), Memory>
         requires design { IsDesign design.now }
-        requires rips { design.now.options.rips ≡ 0 }
+        requires under_way { IsUnderWay design.now self.old }
+        requires routable { IsRoutable design.now net }
+        ensures { OnOk result (IsTurn design.now net self.new self.old todo.new.items todo.old.items) }
+    {
+        if !is_waiting(&self.state, net) {
+            return Ok(());
+        }
+        // That turns come to an end rests on this bound.
+        prove!(design.options.rips <= u8::MAX);
+        let block = next_block(
+            alloc,
+            design,
+            &self.state,
+            &self.store,
+            net,
+            &mut self.tables,
+        )?;
+        push_ripped(alloc, design, &block, todo)?;
+        todo.push(net)?;
+        self.add(alloc, design, block)
+    }
+
+    /// Takes a net, then the nets that are ripped for it, then those that are ripped for these, and so
+    /// on until each of them is joined or marked stuck. Of the nets that are to be taken those that
+    /// were ripped last come first, and of the ones that one block rips the first one in the order of
+    /// nets.
+    pub fn settle(&mut self, alloc: Global, design: &Design, net: u32) -> Result<(), Memory>
+        requires design { IsDesign design.now }
         requires under_way { IsUnderWay design.now self.old }
         requires routable { IsRoutable design.now net }
         ensures under_way { OnOk result (IsUnderWay design.now self.new) }
-        ensures adds { OnOk result (AddsOf net self.new.journal.blocks self.old.journal.blocks) }
-        ensures done { OnOk result (IsDone self.new.state net) }
-        ensures others { OnOk result ((m : ℕ) → m ≢ net → net_state self.new.state m ≡ net_state self.old.state m) }
+        ensures adds { OnOk result (AddsFor net self.new.journal.blocks self.old.journal.blocks) }
+        ensures done { OnOk result ((m : ℕ) → (m ≡ net) ⊎ IsDone self.old.state m → IsDone self.new.state m) }
     {
-        'turns: while is_waiting(&self.state, net) {
-            let block = next_block(
-                alloc,
-                design,
-                &self.state,
-                &self.store,
-                net,
-                &mut self.tables,
-            )?;
-            self.add(alloc, design, block)?;
+        let mut todo = Vec::new(alloc);
+        todo.push(net)?;
+        'turns: while let Some(next) = todo.pop() {
+            self.turn(alloc, design, next, &mut todo)?;
         }
         Ok(())
     }

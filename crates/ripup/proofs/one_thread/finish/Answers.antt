@@ -1,4 +1,4 @@
-use Rattle.std.proofs.Common.{◌∙◌, ℕ, List, sym, ap, subst, take, get_or, All}
+use Rattle.std.proofs.Common.{◌∙◌, ℕ, List, inl, inr, refl, sym, ap, subst, take, get_or, All}
 use Rattle.std.proofs.lemmas.List.{take_more, take_all}
 use Rattle.std.proofs.lemmas.List.Elements.{All-nil, All-push}
 use Rattle.track_graph.specs.Conditions.{IsJournalOf}
@@ -8,8 +8,8 @@ use Rattle.track_graph.specs.States.{state_of}
 use Rattle.ripup.specs.Progress.{IsDone}
 use Rattle.ripup.proofs.HeadlineLemmas.{IsFinishedHistory-headline}
 use Rattle.track_graph.proofs.BlockLemmas.{history-journal_of, history-kept}
-use Rattle.ripup.proofs.OrderLemmas.{goes_on-first, goes_on-more}
-use Rattle.ripup.proofs.ProgressLemmas.{IsDone-others, IsFinished-order}
+use Rattle.ripup.proofs.OrderLemmas.{all_weaker, goes_on-first, goes_on-more}
+use Rattle.ripup.proofs.ProgressLemmas.{IsFinished-order}
 use Rattle.ripup.proofs.one_thread.finish.Goals as goal
 
 pub fold-requires : goal.fold-requires
@@ -30,12 +30,12 @@ loop-net-preserved c =
     let n : ℕ = get_or nets c.loop-net.net-index 0 in
     let ordered : IsOrder c.args.design.now nets = subst (IsOrder c.args.design.now) (sym c.as_slice-net-items.ensures.value) c.in_ok-order.ensures in
     record {
-      under_way = c.in_ok-route.ensures.under_way;
-      goes_on = goes_on-more c.args.design.now nets c.loop-net.net-index c.route.new.self.journal.blocks c.loop-net.run.journal.blocks c.args.journal.blocks ordered.ordered c.loop-net-test.true c.loop-net.invariant.goes_on c.in_ok-route.ensures.adds;
-      done = subst (λ (ns : List ℕ). All (IsDone c.route.new.self.state) ns) (sym (take_more nets c.loop-net.net-index 0 c.loop-net-test.true))
-          (All-push (IsDone c.route.new.self.state) (take c.loop-net.net-index nets) n
-          (IsDone-others c.loop-net.run.state c.route.new.self.state n (take c.loop-net.net-index nets) c.in_ok-route.ensures.done c.in_ok-route.ensures.others c.loop-net.invariant.done)
-          c.in_ok-route.ensures.done);
+      under_way = c.in_ok-settle.ensures.under_way;
+      goes_on = goes_on-more c.args.design.now nets c.loop-net.net-index c.settle.new.self.journal.blocks c.loop-net.run.journal.blocks c.args.journal.blocks ordered.ordered c.loop-net-test.true c.loop-net.invariant.goes_on c.in_ok-settle.ensures.adds;
+      done = subst (λ (ns : List ℕ). All (IsDone c.settle.new.self.state) ns) (sym (take_more nets c.loop-net.net-index 0 c.loop-net-test.true))
+          (All-push (IsDone c.settle.new.self.state) (take c.loop-net.net-index nets) n
+          (all_weaker (IsDone c.loop-net.run.state) (IsDone c.settle.new.self.state) (take c.loop-net.net-index nets) (λ m done. c.in_ok-settle.ensures.done m (inr done)) c.loop-net.invariant.done)
+          (c.in_ok-settle.ensures.done n (inl refl)));
     }
 
 pub returns-clause-begins : goal.returns-clause-begins
