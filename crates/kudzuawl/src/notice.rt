@@ -7,12 +7,13 @@ use std::io::ErrorKind;
 const HELP: &[u8] = b"\
 Kudzuawl, a detailed router whose result is proved.
 
-  kudzuawl route LEF DEF GUIDE OUT JOURNAL [--via COST] [--tile SIDE]
+  kudzuawl route LEF DEF GUIDE OUT JOURNAL [--via COST] [--tile SIDE] [--rips COUNT]
 
 routes the nets of DEF on the layers and tracks of LEF and DEF. OUT becomes the routed DEF, JOURNAL
 the list of what was routed in which order, and the report goes to standard output. GUIDE names the
 boxes that each net's wires stay in; with `-` each net may run over the whole die. A via costs as
-much as COST units of wire, by default 1000. SIDE is the side of a tile.
+much as COST units of wire, by default 1000. SIDE is the side of a tile. A net that has no path takes
+away the wires of the nets in its way, those of each net at most COUNT times, by default 3.
 
   kudzuawl --help
   kudzuawl --version

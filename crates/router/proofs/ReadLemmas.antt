@@ -211,8 +211,8 @@ pub lef_refused : (lef def : Source) (units : ℕ) (e : LefError) → Begins uni
 lef_refused lef def units e begins refused = (units, begins, refused)
 
 -- the words' tile, or that of the texts
-pub chosen_tile : (asked : CommandLine) (said : Texts) (tile : ℤ) → tile ≡ unwrap_or asked.tile (default_tile_of said.lef said.def) → (let o : Options = record { via = asked.via; tile = tile; rips = 0 } in o) ≡ options_of asked said
-chosen_tile asked said tile is = ap (λ (t : ℤ). let o : Options = record { via = asked.via; tile = t; rips = 0 } in o) is
+pub chosen_tile : (asked : CommandLine) (said : Texts) (tile : ℤ) → tile ≡ unwrap_or asked.tile (default_tile_of said.lef said.def) → (let o : Options = record { via = asked.via; tile = tile; rips = asked.rips } in o) ≡ options_of asked said
+chosen_tile asked said tile is = ap (λ (t : ℤ). let o : Options = record { via = asked.via; tile = t; rips = asked.rips } in o) is
 
 -- a fault of a reader that isn't want of memory is a refusal of the texts
 pub def_refusal : (lef def : Source) (e : DefError) → (e ≢ DefMemory → IsDefRefusal lef def e) → of_def e ≢ Memory → IsTextRefusal lef def (of_def e)
@@ -292,10 +292,9 @@ closes_of R text said nets close zip closes = record {
 }
 
 -- a design that was built is ready to be routed
-pub ready_of : (i : Input) (o : Options) (text : List ℕ) (d : Design) → o.rips ≡ 0 → IsDesign d → IsDesignOf i o d → DefCloses (length text) i.def.nets → IsReady text d
-ready_of i o text d none design built closes = record {
+pub ready_of : (i : Input) (o : Options) (text : List ℕ) (d : Design) → IsDesign d → IsDesignOf i o d → DefCloses (length text) i.def.nets → IsReady text d
+ready_of i o text d design built closes = record {
   design = design;
-  no_rips = ap (λ (p : Options). p.rips) built.options ∙ none;
   closes = closes_of _ text i.def.nets d.nets (λ a b h. h.close) built.nets closes;
 }
 

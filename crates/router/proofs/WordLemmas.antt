@@ -6,7 +6,7 @@ use Rattle.std.specs.Global.{Global}
 use Rattle.std.proofs.lemmas.Bool.{cases_lt, lt-ltb}
 use Rattle.std.proofs.lemmas.List.{get_or-map, length-map}
 use Rattle.router.specs.declared.words.Sought.TheVariants.{Misfit}
-use Rattle.router.specs.declared.words.Choice.TheVariants.{Via, Tile}
+use Rattle.router.specs.declared.words.Choice.TheVariants.{Via, Tile, Rips}
 use Rattle.router.specs.declared.words.WordsFault.{WordsFault}
 use Rattle.router.specs.Words.{CommandLine, word_texts, word, is_sought, first_word, fault_of, chosen, guide_of, said_by, unless_fault, command_of}
 
@@ -73,8 +73,8 @@ pub word_get : (words : List (String Global)) (i n : ℕ) (d : String Global) �
 word_get words i n d e h = let i' : n - 1 ≡ i = omega (arith, e) in rw i' (sym (get_or-map string_bytes words i d [] h))
 
 -- what was read of a command line without a fault is what it says
-pub says_line : (words : List (List ℕ)) (lef def guide out journal : List ℕ) (via : ℕ) (tile : Option ℤ) → None ≡ fault_of words → lef ≡ word words 2 → def ≡ word words 3 → guide ≡ word words 4 → out ≡ word words 5 → journal ≡ word words 6 → via ≡ unwrap_or (chosen Via words) 1000 → tile ≡ option_map pos (chosen Tile words) → command_of words ≡ Ok (record { lef = lef; def = def; guide = guide_of guide; out = out; journal = journal; via = via; tile = tile })
-says_line words lef def guide out journal via tile fault a b g d e f h =
-    let line : said_by words ≡ (let l : CommandLine = record { lef = lef; def = def; guide = guide_of guide; out = out; journal = journal; via = via; tile = tile } in l) =
-    (λ i. record { lef = sym a i; def = sym b i; guide = guide_of (sym g i); out = sym d i; journal = sym e i; via = sym f i; tile = sym h i }) in
-    ap (λ (r : Option WordsFault). unless_fault r (said_by words)) (sym fault) ∙ ap Ok line
+pub says_line : (words : List (List ℕ)) (lef def guide out journal : List ℕ) (via : ℕ) (tile : Option ℤ) (rips : ℕ) → None ≡ fault_of words → lef ≡ word words 2 → def ≡ word words 3 → guide ≡ word words 4 → out ≡ word words 5 → journal ≡ word words 6 → via ≡ unwrap_or (chosen Via words) 1000 → tile ≡ option_map pos (chosen Tile words) → rips ≡ unwrap_or (chosen Rips words) 3 → command_of words ≡ Ok (record { lef = lef; def = def; guide = guide_of guide; out = out; journal = journal; via = via; tile = tile; rips = rips })
+says_line words lef def guide out journal via tile rips fault a b g d e f h r =
+    let line : said_by words ≡ (let l : CommandLine = record { lef = lef; def = def; guide = guide_of guide; out = out; journal = journal; via = via; tile = tile; rips = rips } in l) =
+    (λ i. record { lef = sym a i; def = sym b i; guide = guide_of (sym g i); out = sym d i; journal = sym e i; via = sym f i; tile = sym h i; rips = sym r i }) in
+    ap (λ (o : Option WordsFault). unless_fault o (said_by words)) (sym fault) ∙ ap Ok line

@@ -20,10 +20,9 @@ pub record IsRead (told : Option Files) (asked : CommandLine) (text : List ℕ) 
   pub readable : AreReadable designed.def designed.said
   pub ordered : AreViasOrdered d.tech
 
--- the design can be routed without rips, and its nets end in this text
+-- the design can be routed, and its nets end in this text
 pub record IsReady (text : List ℕ) (d : Design) : Type 0 where
   pub design : IsDesign d
-  pub no_rips : d.options.rips ≡ 0
   pub closes : AreCloses text d.nets
 
 -- the journal routes the design, and the texts are those of the journal

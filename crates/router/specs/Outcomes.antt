@@ -129,7 +129,7 @@ input_from def said guides = input_of said.lef said.def def.text def.tokens guid
 
 -- what a command line chooses: without a tile of its own, that of the texts
 abbrev pub options_of : CommandLine → Texts → Options
-options_of asked said = record { via = asked.via; tile = unwrap_or asked.tile (default_tile_of said.lef said.def); rips = 0 }
+options_of asked said = record { via = asked.via; tile = unwrap_or asked.tile (default_tile_of said.lef said.def); rips = asked.rips }
 
 -- LEF, DEF and guides are read, and no design can be built of them
 abbrev pub IsBuildRefusal : CommandLine → Source → Texts → Option Guides → Refusal → Type 0

@@ -4,7 +4,7 @@ use Rattle.std.specs.List.{find, list_any, range_with_len}
 use Rattle.std.specs.Global.{Global}
 use Rattle.rt_words.specs.Reading.{natural_of}
 use Rattle.router.specs.declared.words.Choice.{Choice}
-use Rattle.router.specs.declared.words.Choice.TheVariants.{Via, Tile}
+use Rattle.router.specs.declared.words.Choice.TheVariants.{Via, Tile, Rips}
 use Rattle.router.specs.declared.words.Command.{Command}
 use Rattle.router.specs.declared.words.Place.{Place}
 use Rattle.router.specs.declared.words.Place.TheVariants.{File, OfOption, OfValue}
@@ -13,7 +13,7 @@ use Rattle.router.specs.declared.words.Sought.TheVariants.{Misfit, Again, Misval
 use Rattle.router.specs.declared.words.WordsFault.{WordsFault}
 use Rattle.router.specs.declared.words.WordsFault.TheVariants.{Shape, Twice, Number, SameName}
 
--- what a command line says: its files, where GUIDE isn't `-` one of guides, too; what a via costs; and how wide a tile is, where it says so
+-- what a command line says: its files, where GUIDE isn't `-` one of guides, too; what a via costs; how wide a tile is, where it says so; and how often a net may be ripped
 pub record CommandLine : Type 0 where
   pub lef : List ℕ
   pub def : List ℕ
@@ -22,6 +22,7 @@ pub record CommandLine : Type 0 where
   pub journal : List ℕ
   pub via : ℕ
   pub tile : Option ℤ
+  pub rips : ℕ
 
 abbrev pub word_texts : List (String Global) → List (List ℕ)
 word_texts words = map string_bytes words
@@ -47,21 +48,24 @@ is_owed n = nat_lt n 7 || is_at OfValue n
 abbrev pub option_text : Choice → List ℕ
 option_text Via = codes "--via"
 option_text Tile = codes "--tile"
+option_text Rips = codes "--rips"
 
 abbrev pub is_option : Choice → List ℕ → Bool
 is_option choice w = bytes_eq w (option_text choice)
 
 abbrev pub is_known : List ℕ → Bool
-is_known w = is_option Via w || is_option Tile w
+is_known w = is_option Via w || is_option Tile w || is_option Rips w
 
 -- the least and the most that may be chosen
 abbrev pub least_of : Choice → ℕ
 least_of Via = 0
 least_of Tile = 1
+least_of Rips = 0
 
 abbrev pub most_of : Choice → ℕ
 most_of Via = 1048576
 most_of Tile = 1073741824
+most_of Rips = 16
 
 abbrev pub in_range : Choice → ℕ → Option ℕ
 in_range choice n = if nat_le (least_of choice) n && nat_le n (most_of choice) then Some n else None
@@ -76,7 +80,7 @@ is_none (Some n) = false
 
 -- a value that the option before it can't have
 abbrev pub is_misvalue : List ℕ → List ℕ → Bool
-is_misvalue option w = if is_option Via option then is_none (value_of Via w) else is_none (value_of Tile w)
+is_misvalue option w = if is_option Via option then is_none (value_of Via w) else if is_option Tile option then is_none (value_of Tile w) else is_none (value_of Rips w)
 
 -- ---- words that are looked for
 
@@ -130,6 +134,7 @@ said_by words = record {
   journal = word words 6;
   via = unwrap_or (chosen Via words) 1000;
   tile = option_map pos (chosen Tile words);
+  rips = unwrap_or (chosen Rips words) 3;
 }
 
 abbrev pub unless_fault : Option WordsFault → CommandLine → Result CommandLine WordsFault
@@ -150,12 +155,14 @@ asked_by c = record {
   journal = string_bytes c.journal.now;
   via = c.via;
   tile = c.tile;
+  rips = c.rips;
 }
 
 -- what a command line may choose
 pub record IsInRange (line : CommandLine) : Type 0 where
   pub via : line.via ≤ 2 ^ 20
   pub tile : IfSome line.tile (λ (side : ℤ). (pos 1 ≤ℤ side) × (side ≤ℤ pos (2 ^ 30)))
+  pub rips : line.rips ≤ 16
 
 -- the words ask for workers: no option for them can stand yet
 abbrev pub asks_for_workers : List (List ℕ) → Bool

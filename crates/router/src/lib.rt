@@ -10,6 +10,8 @@ mod lines;
 mod outputs;
 mod read;
 mod refusal;
+#[cfg(test)]
+mod rip_tests;
 mod run;
 mod source;
 #[cfg(test)]

@@ -81,6 +81,7 @@ fn options_of(command: &Command<'_>, said: &Texts) -> Options
     ensures options { result ≡ options_of (asked_by command.now) said.now }
     ensures least { pos 1 ≤ℤ result.tile }
     ensures most { result.tile ≤ℤ pos (2 ^ 35) }
+    ensures rips { result.rips ≤ 16 }
 {
     let tile = match command.tile {
         Some(side) => side,
@@ -89,7 +90,7 @@ fn options_of(command: &Command<'_>, said: &Texts) -> Options
     Options {
         via: command.via,
         tile,
-        rips: 0,
+        rips: command.rips,
     }
 }
 

@@ -360,7 +360,7 @@ fn faults_end_a_run(rt: HostRuntime) -> Result<(), Fail> {
 
 /// Words and the line that refuses them: the form of all words comes first, then options that stand
 /// twice, then values, then names.
-const REFUSED: [(&[&str], &[u8]); 27] = [
+const REFUSED: [(&[&str], &[u8]); 32] = [
     (&[], b"error 2 shape 1\n"),
     (&["rout", "a", "b"], b"error 2 shape 1\n"),
     (&["route", "a", "b"], b"error 2 shape 4\n"),
@@ -379,8 +379,8 @@ const REFUSED: [(&[&str], &[u8]); 27] = [
         b"error 2 shape 7\n",
     ),
     (
-        &["route", "a", "b", "-", "c", "d", "--rips", "3"],
-        b"error 2 shape 7\n",
+        &["route", "a", "b", "-", "c", "c", "--rips"],
+        b"error 2 shape 8\n",
     ),
     (
         &["route", "a", "b", "-", "c", "d", "--via", "5", "x", "6"],
@@ -392,7 +392,18 @@ const REFUSED: [(&[&str], &[u8]); 27] = [
     ),
     (
         &[
-            "route", "a", "b", "-", "c", "d", "--via", "5", "--via", "5", "--rips", "1",
+            "route",
+            "a",
+            "b",
+            "-",
+            "c",
+            "d",
+            "--via",
+            "5",
+            "--via",
+            "5",
+            "--workers",
+            "1",
         ],
         b"error 2 shape 11\n",
     ),
@@ -405,6 +416,12 @@ const REFUSED: [(&[&str], &[u8]); 27] = [
             "route", "a", "b", "-", "c", "c", "--tile", "x", "--via", "1", "--tile", "y",
         ],
         b"error 2 twice 11\n",
+    ),
+    (
+        &[
+            "route", "a", "b", "-", "c", "d", "--rips", "17", "--rips", "3",
+        ],
+        b"error 2 twice 9\n",
     ),
     (
         &["route", "a", "b", "-", "c", "d", "--via", "05"],
@@ -435,6 +452,18 @@ const REFUSED: [(&[&str], &[u8]); 27] = [
             "route", "a", "b", "-", "c", "d", "--tile", "5", "--via", "--tile",
         ],
         b"error 2 number 10\n",
+    ),
+    (
+        &["route", "a", "b", "-", "c", "d", "--rips", "17"],
+        b"error 2 number 8\n",
+    ),
+    (
+        &["route", "a", "b", "-", "c", "d", "--rips", "03"],
+        b"error 2 number 8\n",
+    ),
+    (
+        &["route", "a", "b", "-", "c", "d", "--rips", ""],
+        b"error 2 number 8\n",
     ),
     (
         &["route", "a", "a", "-", "c", "d", "--via", "x"],
@@ -468,7 +497,13 @@ const REFUSED: [(&[&str], &[u8]); 27] = [
             "1048576",
             "--tile",
             "1073741824",
+            "--rips",
+            "16",
         ],
+        b"error 2 same-name 6\n",
+    ),
+    (
+        &["route", "a", "b", "-", "c", "c", "--rips", "0"],
         b"error 2 same-name 6\n",
     ),
 ];

@@ -1,7 +1,7 @@
 //! Command lines.
 ghost use Rattle.std.specs.Prelude.{◌≡◌, ◌≤◌, ◌≤ℤ◌, ◌+◌, ◌&&◌, ◌^◌, pos, MatchResult, Ok, Err, IfOk, IfSome, None, bytes_eq, length, option_map, unwrap_or};
 ghost use Rattle.router.specs.Words.{word_texts, word as word_of, is_at, is_owed, is_option, is_known, value_of, is_misvalue, fits, stands_before, is_sought, first_word, fault_of, chosen, command_of, asked_by, IsInRange, asks_for_workers, least_of, most_of};
-ghost use Rattle.router.specs.declared.words.Choice.TheVariants.{Via, Tile};
+ghost use Rattle.router.specs.declared.words.Choice.TheVariants.{Via, Tile, Rips};
 
 use rt_words::natural;
 use thiserror::Error;
@@ -30,6 +30,8 @@ enum Choice {
     Via,
     /// `--tile`: the side of a tile, in DEF database units.
     Tile,
+    /// `--rips`: how often a net may be ripped.
+    Rips,
 }
 
 /// What may stand at a place behind the command's own word.
@@ -68,6 +70,8 @@ pub struct Command<'a> {
     pub via: u64,
     /// The side of a tile, where the words say it.
     pub tile: Option<i64>,
+    /// How often a net may be ripped.
+    pub rips: u8,
 }
 
 /// Word n, empty where there is none.
@@ -106,13 +110,14 @@ fn is_option(choice: Choice, word: &str) -> bool
     match choice {
         Choice::Via => word == "--via",
         Choice::Tile => word == "--tile",
+        Choice::Rips => word == "--rips",
     }
 }
 
 fn is_known(word: &str) -> bool
     ensures { result ≡ is_known word.now }
 {
-    is_option(Choice::Via, word) || is_option(Choice::Tile, word)
+    is_option(Choice::Via, word) || is_option(Choice::Tile, word) || is_option(Choice::Rips, word)
 }
 
 /// The number that a word chooses, where it is one in range.
@@ -124,6 +129,7 @@ fn value_of(choice: Choice, word: &str) -> Option<u64>
     let (least, most) = match choice {
         Choice::Via => (0, 1_048_576),
         Choice::Tile => (1, 1_073_741_824),
+        Choice::Rips => (0, 16),
     };
     match natural(word.as_bytes()) {
         Some(number) if least <= number && number <= most => Some(number),
@@ -137,8 +143,10 @@ fn is_misvalue(option: &str, word: &str) -> bool
 {
     if is_option(Choice::Via, option) {
         value_of(Choice::Via, word).is_none()
-    } else {
+    } else if is_option(Choice::Tile, option) {
         value_of(Choice::Tile, word).is_none()
+    } else {
+        value_of(Choice::Rips, word).is_none()
     }
 }
 
@@ -267,6 +275,17 @@ fn tile_side(words: &[String]) -> Option<i64>
     }
 }
 
+/// How often a net may be ripped.
+fn rip_limit(words: &[String]) -> u8
+    ensures value { result ≡ unwrap_or (chosen Rips (word_texts words.now)) 3 }
+    ensures most { result ≤ 16 }
+{
+    match chosen(words, Choice::Rips) {
+        Some(rips) => rips as u8,
+        None => 3,
+    }
+}
+
 /// What a command line says. Refuses it by its form first (`Shape`), then for an option that stands
 /// twice (`Twice`), for a value that its option can't have (`Number`), and for a file that is named
 /// twice (`SameName`), `-` included; each over all words, with the number of the first such word. A
@@ -286,6 +305,7 @@ pub fn read_words(words: &[String]) -> Result<Command<'_>, WordsFault>
         journal: &words[5],
         via: via_cost(words),
         tile: tile_side(words),
+        rips: rip_limit(words),
     })
 }
 

@@ -1,9 +1,7 @@
-use Rattle.std.proofs.Common.{ap}
 use Rattle.std.proofs.lemmas.Result.{err_from_is_err_and}
 use Rattle.rt_base.proofs.Scanning.{made_inside}
 use Rattle.std.specs.Option.{option_copied}
 use Rattle.router.specs.Words.{asked_by}
-use Rattle.track_graph.specs.declared.design.Options.{Options}
 use Rattle.router.proofs.ReadLemmas.{build_refusal, ready_of}
 use Rattle.router.proofs.read.design_of.Goals as goal
 
@@ -22,4 +20,4 @@ pub returns-clause-design : goal.returns-clause-design
 returns-clause-design c = rw (c.as_slice.ensures, c.as_slice-2.ensures, c.options_of-options.ensures.options) at c.in_ok-build.ensures.design
 
 pub returns-clause-ready : goal.returns-clause-ready
-returns-clause-ready c = ready_of _ _ c.args.def.now.text _ (ap (λ (o : Options). o.rips) c.options_of-options.ensures.options) c.in_ok-build.ensures.fits c.in_ok-build.ensures.design.design c.requires.said.closes
+returns-clause-ready c = ready_of _ _ c.args.def.now.text _ c.in_ok-build.ensures.fits c.in_ok-build.ensures.design.design c.requires.said.closes

@@ -12,4 +12,4 @@ returns-clause-says c =
     let guide = ap string_bytes c.index-words-3.is ∙ word_get words 3 4 c.index-words-3.result refl (omega (arith, whole)) in
     let out = ap string_bytes c.index-words-4.is ∙ word_get words 4 5 c.index-words-4.result refl (omega (arith, whole)) in
     let journal = ap string_bytes c.index-words-5.is ∙ word_get words 5 6 c.index-words-5.result refl (omega (arith, whole)) in
-    says_line (word_texts words) _ _ _ _ _ _ _ c.in_default.ensures.fault lef def guide out journal c.via_cost.ensures.value c.tile_side.ensures.value
+    says_line (word_texts words) _ _ _ _ _ _ _ _ c.in_default.ensures.fault lef def guide out journal c.via_cost.ensures.value c.tile_side.ensures.value c.rip_limit.ensures.value
