@@ -21,9 +21,8 @@ use std::alloc::Global;
 /// as much. Which shapes forbid and which are dear is up to the sense. A walk may come back to a
 /// vertex. Where several walks cost least, any of them is answered.
 ///
-/// The store holds the shapes of the state. The search looks only at vertices whose cost and bound
-/// are at most the answer's cost, and at the shapes near them. The tables may be any before and after;
-/// they keep their memory for the next search. The only error is want of memory.
+/// The store holds the shapes of the state. The tables may be any before and after; they keep their
+/// memory for the next search. The only error is want of memory.
 pub fn search<S: ShapeStore>(
     alloc: Global,
     ground: &Ground<S>,

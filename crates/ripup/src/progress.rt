@@ -69,7 +69,7 @@ impl Progress {
     }
 
     /// A turn of a net that was taken from those that are to be taken: where it is waiting it gets a
-    /// block, and it is put back to come next, and behind it the nets that the block rips.
+    /// block, and it is put back to come next, and after it the nets that the block rips.
     fn turn(
         &mut self,
         alloc: Global,
