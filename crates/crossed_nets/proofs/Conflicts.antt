@@ -13,7 +13,11 @@ use Rattle.track_graph.specs.Readings.{may_rip}
 use Rattle.track_graph.specs.Searches.{some_conflict}
 use Rattle.track_graph.specs.States.{net_shapes, standing_from}
 use Rattle.track_graph.specs.Walks.{walk_shapes_of}
-use Rattle.crossed_nets.specs.Hits.{has, is_rippable_as}
+use Rattle.crossed_nets.specs.Hits.{has}
+
+-- net k is m and may be ripped for net n
+abbrev pub is_rippable_as : Design → ℕ → ℕ → ℕ → NetState → Bool
+is_rippable_as d n m k net = (k == m) && may_rip d n k net
 
 pub some-none : (tech : Tech) (mine : List Shape) → some_conflict tech mine [] ≡ false
 some-none tech [] = refl

@@ -21,7 +21,7 @@ use Rattle.crossed_nets.specs.Hits.{has}
 use Rattle.crossed_nets.specs.Ripped.{IsRippable}
 use Rattle.crossed_nets.proofs.Conflicts.{some-append, some-none}
 use Rattle.crossed_nets.proofs.Numbers.{ascend-down, ascend-pairs}
-use Rattle.crossed_nets.proofs.Wires.{state_at}
+use Rattle.plain_route.proofs.CountLemmas.{state_at}
 
 -- the number alone, or nothing, comes in order before greater ones
 if_ascends : (k : ℕ) (t : Bool) (rest : List ℕ) → Ascend (k + 1) rest → Ascend k (cond t (k ∷ []) [] ++ rest)

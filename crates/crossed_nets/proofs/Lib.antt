@@ -1,6 +1,6 @@
 mod Numbers
 mod Conflicts
-mod Wires
+pub mod CrossedLemmas
+pub mod Wires
 mod Fits
 mod Touching
-pub mod CrossedLemmas

@@ -1,79 +1,24 @@
--- A shape that conflicts with another touches its rectangle made larger by the spacing.
-use Rattle.std.proofs.Common.{◌≡◌, ℕ, ◌+◌, ◌*◌, ◌<◌, List, ℤ, pos, ◌-ℤ◌, ◌+ℤ◌, int_le, Bool, true, false, not, ◌&&◌, ◌==◌, nat_lt, refl, sym, ◌∙◌, subst, arith}
+-- What a shape hits is found near it.
+use Rattle.std.proofs.Common.{◌≡◌, ℕ, List, ℤ, pos, Bool, true, false, ◌&&◌, refl, sym, ◌∙◌}
 use Rattle.std.specs.List.{list_any}
 use Rattle.std.proofs.lemmas.List.Sorted.{list_any-IsPermutation}
 use Rattle.std.proofs.lemmas.Map.Views.{any-filter_same}
 use Rattle.std.specs.declared.cmp.Ordering.{Ordering}
-use Rattle.std.proofs.lemmas.Bool.Decides.{nat_tests}
-use Rattle.std.proofs.lemmas.Int.{ints}
-use Rattle.rt_base.specs.Conflict.{conflict_of, same_owner, is_near_of, largest_spacing}
-use Rattle.rt_base.specs.Geometry.{gap_between, gap_x, gap_y, grown}
+use Rattle.rt_base.specs.Conflict.{conflict_of, largest_spacing}
+use Rattle.rt_base.specs.Geometry.{grown}
 use Rattle.rt_base.specs.declared.tech.Shape.{Shape}
-use Rattle.rt_base.specs.declared.tech.Tech.{Tech}
 use Rattle.track_graph.specs.declared.design.Design.{Design}
-use Rattle.track_graph.specs.declared.history.State.{State}
 use Rattle.shape_grid.specs.Stores.{is_touching, AreNear}
+use Rattle.plain_route.proofs.TouchLemmas.{conflict_touches}
 use Rattle.crossed_nets.specs.Hits.{is_hit, is_wire_of}
-
--- what a conflict means
-record IsConflict (tech : Tech) (a b : Shape) : Type 0 where
-  pub layer : a.layer.0 ≡ b.layer.0
-  pub in_x : gap_x a.rect b.rect < largest_spacing tech a.layer
-  pub in_y : gap_y a.rect b.rect < largest_spacing tech a.layer
-
-less_by_squares : (x y s : ℕ) → nat_lt (x * x + y * y) (s * s) ≡ true → (x < s) × (y < s)
-less_by_squares x y s h =
-    let squares : x * x + y * y < s * s = less (x * x + y * y) (s * s) h in
-    (first x y s squares, first y x s (omega (arith, squares)))
-  where
-    less : (m n : ℕ) → nat_lt m n ≡ true → m < n
-    less m n e = grind (arith, nat_tests)
-
-    first : (x y s : ℕ) → x * x + y * y < s * s → x < s
-    first x y s h = grind arith
-
-conflict_is : (tech : Tech) (a b : Shape) → conflict_of tech a b ≡ true → IsConflict tech a b
-conflict_is tech a b h = parts (a.layer.0 == b.layer.0) (same_owner a.owner b.owner) (is_near_of (gap_x a.rect b.rect) (gap_y a.rect b.rect) (largest_spacing tech a.layer)) refl refl h
-  where
-    equal : (m n : ℕ) → (m == n) ≡ true → m ≡ n
-    equal m n e = grind (arith, nat_tests)
-
-    parts : (l o near : Bool) → (a.layer.0 == b.layer.0) ≡ l → is_near_of (gap_x a.rect b.rect) (gap_y a.rect b.rect) (largest_spacing tech a.layer) ≡ near → (l && not o && near) ≡ true → IsConflict tech a b
-    parts true false true l near e =
-        let less = less_by_squares (gap_x a.rect b.rect) (gap_y a.rect b.rect) (largest_spacing tech a.layer) near in
-        record { layer = equal a.layer.0 b.layer.0 l; in_x = less.0; in_y = less.1 }
-    parts true false false l near e = cc
-    parts true true near_test l near e = cc
-    parts false o near_test l near e = cc
-
--- ranges with a gap of less than s meet when the one is made longer by s
-low_meets : (al ah bl bh : ℤ) (s : ℕ) → gap_between al ah bl bh < s → int_le (al -ℤ pos s) bh ≡ true
-low_meets al ah bl bh s near = grind (arith, ints)
-
-high_meets : (al ah bl bh : ℤ) (s : ℕ) → gap_between al ah bl bh < s → int_le bl (ah +ℤ pos s) ≡ true
-high_meets al ah bl bh s near = grind (arith, ints)
-
-all_true : (a b c d e : Bool) → a ≡ true → b ≡ true → c ≡ true → d ≡ true → e ≡ true → (a && b && c && d && e) ≡ true
-all_true a b c d e p q r s t = rw (p, q, r, s, t) refl
-
--- so it is found where the store is asked for what touches the larger rectangle
-conflict_touches : (tech : Tech) (a b : Shape) (reach : ℤ) → reach ≡ pos (largest_spacing tech a.layer) → conflict_of tech a b ≡ true → is_touching a.layer (grown a.rect reach) b ≡ true
-conflict_touches tech a b reach is h =
-    let c : IsConflict tech a b = conflict_is tech a b h in
-    let s : ℕ = largest_spacing tech a.layer in
-    subst (λ (z : ℤ). is_touching a.layer (grown a.rect z) b ≡ true) (sym is)
-    (all_true (b.layer.0 == a.layer.0) _ _ _ _ (same b.layer.0 a.layer.0 (sym c.layer)) (low_meets a.rect.xl a.rect.xh b.rect.xl b.rect.xh s c.in_x) (high_meets a.rect.xl a.rect.xh b.rect.xl b.rect.xh s c.in_x) (low_meets a.rect.yl a.rect.yh b.rect.yl b.rect.yh s c.in_y) (high_meets a.rect.yl a.rect.yh b.rect.yl b.rect.yh s c.in_y))
-  where
-    same : (m n : ℕ) → m ≡ n → (m == n) ≡ true
-    same m n e = grind (arith, nat_tests)
 
 and_first : (a b : Bool) → (a && b) ≡ true → a ≡ true
 and_first true b h = refl
 and_first false b h = absurd cc
 
 -- of what is near all that a shape hits is found
-pub hit-near : (d : Design) (s : State) (n m : ℕ) (a : Shape) (reach : ℤ) (cmp : Shape → Shape → Ordering) (shapes found : List Shape) → reach ≡ pos (largest_spacing d.tech a.layer) → AreNear cmp a.layer (grown a.rect reach) shapes found
-    → list_any (is_hit d s n m a) found ≡ list_any (is_hit d s n m a) shapes
-hit-near d s n m a reach cmp shapes found is are =
-    sym (list_any-IsPermutation (is_hit d s n m a) _ found are.are)
-    ∙ any-filter_same (is_hit d s n m a) (is_touching a.layer (grown a.rect reach)) true (λ b h. conflict_touches d.tech a b reach is (and_first (conflict_of d.tech a b) (is_wire_of d s n m b) h)) shapes
+pub hit-near : (d : Design) (rips : ℕ → ℕ) (n m : ℕ) (a : Shape) (reach : ℤ) (cmp : Shape → Shape → Ordering) (shapes found : List Shape) → reach ≡ pos (largest_spacing d.tech a.layer) → AreNear cmp a.layer (grown a.rect reach) shapes found
+    → list_any (is_hit d rips n m a) found ≡ list_any (is_hit d rips n m a) shapes
+hit-near d rips n m a reach cmp shapes found is are =
+    sym (list_any-IsPermutation (is_hit d rips n m a) _ found are.are)
+    ∙ any-filter_same (is_hit d rips n m a) (is_touching a.layer (grown a.rect reach)) true (λ b h. conflict_touches d.tech a b reach is (and_first (conflict_of d.tech a b) (is_wire_of d rips n m b) h)) shapes

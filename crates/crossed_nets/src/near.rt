@@ -4,16 +4,13 @@ ghost use Rattle.std.specs.List.{list_any};
 ghost use Rattle.rt_base.specs.Ranges.{AreSidesWithin};
 ghost use Rattle.rt_base.specs.Conflict.{conflict_of, largest_spacing};
 ghost use Rattle.track_graph.specs.Designs.{IsTech};
-ghost use Rattle.track_graph.specs.Readings.{may_rip};
-ghost use Rattle.track_graph.specs.States.{net_state};
 ghost use Rattle.plain_route.specs.Ground.{IsGround};
+ghost use Rattle.plain_route.specs.Roles.{is_rippable};
 ghost use Rattle.crossed_nets.specs.Hits.{has, is_hit};
 
-use plain_route::Ground;
+use plain_route::{Ground, Stock};
 use rt_base::{LayerNo, Memory, Owner, Seq, Shape, Tech, conflict};
-use shape_grid::ShapeStore;
 use std::alloc::Global;
-use track_graph::may_rip;
 
 /// How far a shape of a layer has to stay away from others.
 fn reach(tech: &Tech, layer: LayerNo) -> i64
@@ -25,33 +22,23 @@ fn reach(tech: &Tech, layer: LayerNo) -> i64
     tech.largest_spacing(layer) as i64
 }
 
-/// Whether a net may be ripped for the one that is searched for.
-fn is_rippable<S>(ground: &Ground<S>, other: u32) -> bool
-    ensures { result ≡ may_rip ground.now.design.now ground.now.net other (net_state ground.now.state.now other) }
-{
-    match ground.state.nets.as_slice().get(other as usize) {
-        Some(standing) => may_rip(ground.design, ground.net, other, standing),
-        None => other != ground.net && ground.design.options.rips > 0,
-    }
-}
-
 /// Whether a shape of the walk conflicts with a wire of another net, and this net may be ripped.
-fn is_crossed<S>(ground: &Ground<S>, mine: &Shape, near: &Shape, other: u32) -> bool
+fn is_crossed<K: Stock>(ground: &Ground<K>, mine: &Shape, near: &Shape, other: u32) -> bool
     requires { mine.now.layer.0 < length ground.now.design.now.tech.layers }
-    ensures { result ≡ (conflict_of ground.now.design.now.tech mine.now near.now && not near.now.fixed && may_rip ground.now.design.now ground.now.net other (net_state ground.now.state.now other)) }
+    ensures { result ≡ (conflict_of ground.now.design.now.tech mine.now near.now && not near.now.fixed && is_rippable ground.now.design.now (K.rips_of ground.now.stock.now) ground.now.net other) }
 {
-    conflict(&ground.design.tech, mine, near) && !near.fixed && is_rippable(ground, other)
+    conflict(&ground.design.tech, mine, near) && !near.fixed && ground.may_rip(other)
 }
 
 /// Adds the net of a shape, where it is crossed.
-fn push_owner<S>(
+fn push_owner<K: Stock>(
     nets: &mut Seq<u32>,
-    ground: &Ground<S>,
+    ground: &Ground<K>,
     mine: &Shape,
     near: &Shape,
 ) -> Result<(), Memory>
     requires { mine.now.layer.0 < length ground.now.design.now.tech.layers }
-    ensures { OnOk result ((m : ℕ) → has nets.new m ≡ (has nets.old m || is_hit ground.now.design.now ground.now.state.now ground.now.net m mine.now near.now)) }
+    ensures { OnOk result ((m : ℕ) → has nets.new m ≡ (has nets.old m || is_hit ground.now.design.now (K.rips_of ground.now.stock.now) ground.now.net m mine.now near.now)) }
 {
     let Owner::Net(other) = near.owner else {
         return Ok(());
@@ -63,14 +50,14 @@ fn push_owner<S>(
 }
 
 /// Adds the nets of these shapes, where they are crossed.
-fn push_owners<S>(
+fn push_owners<K: Stock>(
     nets: &mut Seq<u32>,
-    ground: &Ground<S>,
+    ground: &Ground<K>,
     mine: &Shape,
     near: &[Shape],
 ) -> Result<(), Memory>
     requires { mine.now.layer.0 < length ground.now.design.now.tech.layers }
-    ensures { OnOk result ((m : ℕ) → has nets.new m ≡ (has nets.old m || list_any (is_hit ground.now.design.now ground.now.state.now ground.now.net m mine.now) near.now)) }
+    ensures { OnOk result ((m : ℕ) → has nets.new m ≡ (has nets.old m || list_any (is_hit ground.now.design.now (K.rips_of ground.now.stock.now) ground.now.net m mine.now) near.now)) }
 {
     for shape in near {
         push_owner(nets, ground, mine, shape)?;
@@ -79,20 +66,20 @@ fn push_owners<S>(
 }
 
 /// Adds the nets that a shape of a walk crosses, one or more times each.
-pub(crate) fn push_crossed<S: ShapeStore>(
+pub(crate) fn push_crossed<K: Stock>(
     alloc: Global,
     nets: &mut Seq<u32>,
-    ground: &Ground<S>,
+    ground: &Ground<K>,
     mine: &Shape,
 ) -> Result<(), Memory>
-    requires ground { IsGround ground.now.design.now ground.now.state.now ground.now.net (S.shapes ground.now.store.now) }
+    requires ground { IsGround ground.now.design.now ground.now.net ground.now.own.now }
     requires layer { mine.now.layer.0 < length ground.now.design.now.tech.layers }
     requires sides { AreSidesWithin (2 ^ 61) mine.now.rect }
-    ensures { OnOk result ((m : ℕ) → has nets.new m ≡ (has nets.old m || list_any (is_hit ground.now.design.now ground.now.state.now ground.now.net m mine.now) (S.shapes ground.now.store.now))) }
+    ensures { OnOk result ((m : ℕ) → has nets.new m ≡ (has nets.old m || list_any (is_hit ground.now.design.now (K.rips_of ground.now.stock.now) ground.now.net m mine.now) (K.shapes ground.now.stock.now))) }
 {
     let reach = reach(&ground.design.tech, mine.layer);
     let near = ground
-        .store
+        .stock
         .near(alloc, mine.layer, &mine.rect.grown(reach))?;
     push_owners(nets, ground, mine, &near)
 }

@@ -9,16 +9,15 @@ use Rattle.rt_base.specs.declared.walk.EntryKind.TheVariants.{Wire as OnWire}
 use Rattle.rt_base.specs.declared.walk.Vertex.{Vertex}
 use Rattle.rt_base.specs.declared.walk.Walk.{Walk}
 use Rattle.rt_base.proofs.Lists.{in_cons}
-use Rattle.track_graph.specs.Conditions.{IsStateOf}
 use Rattle.track_graph.specs.declared.design.Design.{Design}
 use Rattle.track_graph.specs.declared.design.Pin.{Pin}
-use Rattle.track_graph.specs.declared.history.State.{State}
+use Rattle.track_graph.specs.declared.history.NetState.{NetState}
 use Rattle.track_graph.specs.Designs.{IsDesign}
 use Rattle.track_graph.specs.Entries.{pins_of}
 use Rattle.track_graph.specs.Levels.{TrackSystem, track_system_of, IsVertex}
 use Rattle.track_graph.specs.NetWalks.{IsNetWalk, IsWalkOf}
 use Rattle.track_graph.specs.Searches.{IsStart, IsFinish}
-use Rattle.track_graph.specs.States.{net_state}
+use Rattle.plain_route.specs.Ground.{IsGround}
 use Rattle.track_graph.specs.Walks.{IsPath, vertices_of}
 use Rattle.track_graph.proofs.EntryLemmas.{entry_vertex}
 use Rattle.plain_route.specs.Stops.{on_wire, ends_of, entries_on, wire_entries, is_same, pin_entries, AreEntries}
@@ -143,33 +142,33 @@ wire_vertex d n ws e ok all (kind, (k, w, lt, is, c)) =
     let walk : IsNetWalk d n w = (subst (IsWalkOf d n) is (all k w lt)).net_walk in
     path_vertices (track_system_of d) w.start.vertex e.vertex w.edges (entry_vertex d n w.start ok walk.start) walk.path c
 
-abbrev pinned : Design → State → ℕ → List Entry
-pinned d s n = pin_entries true (net_state s n).joined (pins_of d n)
+abbrev pinned : Design → NetState → ℕ → List Entry
+pinned d own n = pin_entries true own.joined (pins_of d n)
 
-abbrev wired : State → ℕ → List Entry
-wired s n = wire_entries (net_state s n).walks
+abbrev wired : NetState → List Entry
+wired own = wire_entries own.walks
 
-pub starts_are : (d : Design) (s : State) (n : ℕ) (entries : List Entry) → IsDesign d → IsStateOf d s → entries ≡ pin_entries true (net_state s n).joined (pins_of d n) ++ wire_entries (net_state s n).walks → AreEntries d n (IsStart d n (net_state s n)) entries
-starts_are d s n entries ok routed is = record {
-  only = λ e h. ⊎_elim (λ (p : Contains (pinned d s n) e). inl (pin_entries-only true (net_state s n).joined (pins_of d n) e p)) (λ (w : Contains (wired s n) e). inr (wire_entries-only (net_state s n).walks e w)) (cases e h);
+pub starts_are : (d : Design) (own : NetState) (n : ℕ) (entries : List Entry) → IsGround d n own → entries ≡ pin_entries true own.joined (pins_of d n) ++ wire_entries own.walks → AreEntries d n (IsStart d n own) entries
+starts_are d own n entries ground is = record {
+  only = λ e h. ⊎_elim (λ (p : Contains (pinned d own n) e). inl (pin_entries-only true own.joined (pins_of d n) e p)) (λ (w : Contains (wired own) e). inr (wire_entries-only own.walks e w)) (cases e h);
   has = λ e h. subst (λ es. Contains es e) (sym is) (⊎_elim
-      (λ (p : IsWanted true (net_state s n).joined (pins_of d n) e). Contains-append_left (pinned d s n) (wired s n) e (pin_entries-has true (net_state s n).joined (pins_of d n) e p))
-      (λ (w : IsOnWire (net_state s n).walks e). Contains-append_right (pinned d s n) (wired s n) e (wire_entries-has (net_state s n).walks e w))
+      (λ (p : IsWanted true own.joined (pins_of d n) e). Contains-append_left (pinned d own n) (wired own) e (pin_entries-has true own.joined (pins_of d n) e p))
+      (λ (w : IsOnWire own.walks e). Contains-append_right (pinned d own n) (wired own) e (wire_entries-has own.walks e w))
       h);
   fit = λ e h. ⊎_elim
-      (λ (p : Contains (pinned d s n) e). let w = pin_entries-only true (net_state s n).joined (pins_of d n) e p in inl (w.0, w.2))
-      (λ (w : Contains (wired s n) e). let o = wire_entries-only (net_state s n).walks e w in inr (o.0, wire_vertex d n (net_state s n).walks e ok (routed.walks n) o))
+      (λ (p : Contains (pinned d own n) e). let w = pin_entries-only true own.joined (pins_of d n) e p in inl (w.0, w.2))
+      (λ (w : Contains (wired own) e). let o = wire_entries-only own.walks e w in inr (o.0, wire_vertex d n own.walks e ground.design ground.of_net.walks o))
       (cases e h);
 }
   where
-    cases : (e : Entry) → Contains entries e → Contains (pinned d s n) e ⊎ Contains (wired s n) e
-    cases e h = Contains-append_cases (pinned d s n) (wired s n) e (subst (λ es. Contains es e) is h)
+    cases : (e : Entry) → Contains entries e → Contains (pinned d own n) e ⊎ Contains (wired own) e
+    cases e h = Contains-append_cases (pinned d own n) (wired own) e (subst (λ es. Contains es e) is h)
 
-pub finishes_are : (d : Design) (s : State) (n : ℕ) (entries : List Entry) → entries ≡ pin_entries false (net_state s n).joined (pins_of d n) → AreEntries d n (IsFinish d n (net_state s n)) entries
-finishes_are d s n entries is = record {
-  only = λ e h. pin_entries-only false (net_state s n).joined (pins_of d n) e (subst (λ es. Contains es e) is h);
-  has = λ e h. subst (λ es. Contains es e) (sym is) (pin_entries-has false (net_state s n).joined (pins_of d n) e h);
-  fit = λ e h. let w = pin_entries-only false (net_state s n).joined (pins_of d n) e (subst (λ es. Contains es e) is h) in inl (w.0, w.2);
+pub finishes_are : (d : Design) (own : NetState) (n : ℕ) (entries : List Entry) → entries ≡ pin_entries false own.joined (pins_of d n) → AreEntries d n (IsFinish d n own) entries
+finishes_are d own n entries is = record {
+  only = λ e h. pin_entries-only false own.joined (pins_of d n) e (subst (λ es. Contains es e) is h);
+  has = λ e h. subst (λ es. Contains es e) (sym is) (pin_entries-has false own.joined (pins_of d n) e h);
+  fit = λ e h. let w = pin_entries-only false own.joined (pins_of d n) e (subst (λ es. Contains es e) is h) in inl (w.0, w.2);
 }
 
 -- nothing is left past the end

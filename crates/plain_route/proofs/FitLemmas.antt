@@ -10,6 +10,8 @@ use Rattle.rt_base.specs.Geometry.{moved, distance, nearest_point}
 use Rattle.rt_base.specs.Ranges.{IsWithin, IsPointWithin, AreSidesWithin, IsWidth}
 use Rattle.rt_base.specs.declared.geometry.Point.{Point}
 use Rattle.rt_base.specs.declared.tech.Layer.{Layer}
+use Rattle.rt_base.specs.declared.tech.Owner.{Owner}
+use Rattle.rt_base.specs.declared.tech.Owner.TheVariants.{Net as OfNet, Nobody}
 use Rattle.rt_base.specs.declared.tech.Shape.{Shape}
 use Rattle.rt_base.specs.declared.tech.Tech.{Tech}
 use Rattle.rt_base.specs.declared.tech.Via.{Via}
@@ -32,7 +34,8 @@ use Rattle.track_graph.specs.NetWalks.{IsNetEntry}
 use Rattle.track_graph.proofs.EntryLemmas.{entry_vertex, rect_within, nearest_point_within, stub_rect-exists, stub_distance}
 use Rattle.track_graph.proofs.ShapeLemmas.{routing_number-below, vertex_within, distance_within}
 use Rattle.plain_route.specs.Fitting.{IsFitting, IsUsableVia, has_dear}
-use Rattle.plain_route.specs.Senses.{reading_of}
+use Rattle.plain_route.specs.Stocks.{stock_reading}
+use Rattle.plain_route.specs.Roles.{is_dear, is_dear_net, is_net_with}
 use Rattle.plain_route.specs.declared.sense.Sense.{Sense}
 use Rattle.plain_route.specs.declared.sense.Sense.TheVariants.{Hard, Soft, Without}
 
@@ -187,8 +190,20 @@ no_conflict : (tech : Tech) (mine : List Shape) → some_conflict tech mine [] �
 no_conflict tech [] = refl
 no_conflict tech (a ∷ mine) = no_conflict tech mine
 
+none_pass : (test : Shape → Bool) (shapes : List Shape) → ((b : Shape) → test b ≡ false) → filter test shapes ≡ []
+none_pass test [] h = refl
+none_pass test (b ∷ shapes) h = ap (λ (t : Bool). cond t (b ∷ filter test shapes) (filter test shapes)) (h b) ∙ none_pass test shapes h
+
 -- only the soft reading has dear shapes
-pub none_dear : (d : Design) (s : State) (n : ℕ) (sense : Sense) (mine : List Shape) → has_dear sense ≡ false → some_conflict d.tech mine (reading_of d s n sense).dear ≡ false
-none_dear d s n Hard mine h = no_conflict d.tech mine
-none_dear d s n Soft mine h = cc
-none_dear d s n (Without absent) mine h = no_conflict d.tech mine
+pub none_dear : (d : Design) (rips : ℕ → ℕ) (n : ℕ) (sense : Sense) (shapes mine : List Shape) → has_dear sense ≡ false → some_conflict d.tech mine (stock_reading d rips n sense shapes).dear ≡ false
+none_dear d rips n sense shapes mine h =
+    ap (λ (others : List Shape). some_conflict d.tech mine others) (none_pass (is_dear d rips n sense) shapes (λ b. never sense h b.fixed b.owner)) ∙ no_conflict d.tech mine
+  where
+    never : (sense : Sense) → has_dear sense ≡ false → (fixed : Bool) (o : Owner) → (not fixed && is_net_with (is_dear_net d rips n sense) o) ≡ false
+    never Soft h fixed o = cc
+    never Hard h true o = refl
+    never Hard h false (OfNet m) = refl
+    never Hard h false Nobody = refl
+    never (Without absent) h true o = refl
+    never (Without absent) h false (OfNet m) = refl
+    never (Without absent) h false Nobody = refl

@@ -1,11 +1,13 @@
-mod AnyLemmas
-mod CountLemmas
-mod TouchLemmas
+pub mod AnyLemmas
+pub mod AnswerLemmas
+pub mod CountLemmas
+pub mod StockLaw
+pub mod TouchLemmas
 mod GuideLemmas
 mod EntryLists
 mod PositionLemmas
 mod StepLemmas
-mod FitLemmas
+pub mod FitLemmas
 mod VertexLemmas
 mod StopLemmas
 mod BackLemmas

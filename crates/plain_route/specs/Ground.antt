@@ -1,5 +1,5 @@
 -- What a search of a net looks at, and the edges and entries that a legal walk may take there.
-use Rattle.std.specs.Prelude.{◌≡◌, ℕ, List, false, Contains}
+use Rattle.std.specs.Prelude.{◌≡◌, ℕ, List, false, length, All, Contains}
 use Rattle.rt_base.specs.Sides.{Sides}
 use Rattle.rt_base.specs.Geometry.{Holds, high_of}
 use Rattle.rt_base.specs.declared.geometry.Point.{Point}
@@ -7,13 +7,12 @@ use Rattle.rt_base.specs.declared.tech.Shape.{Shape}
 use Rattle.rt_base.specs.declared.walk.Edge.{Edge}
 use Rattle.rt_base.specs.declared.walk.Entry.{Entry}
 use Rattle.rt_base.specs.declared.walk.Vertex.{Vertex}
-use Rattle.standing_shapes.specs.Standing.{AreShapesOf}
 use Rattle.track_graph.specs.declared.design.Design.{Design}
-use Rattle.track_graph.specs.declared.history.State.{State}
-use Rattle.track_graph.specs.Conditions.{IsStateOf}
+use Rattle.track_graph.specs.declared.history.NetState.{NetState}
 use Rattle.track_graph.specs.Designs.{IsDesign}
 use Rattle.track_graph.specs.Edges.{IsEdge, EdgeInGuide, edge_metal, edge_cost_of}
-use Rattle.track_graph.specs.Entries.{entry_part}
+use Rattle.track_graph.specs.Entries.{entry_part, pins_of}
+use Rattle.track_graph.specs.NetWalks.{IsWalkOf}
 use Rattle.track_graph.specs.Guide.{Guide, InGuide}
 use Rattle.track_graph.specs.Histories.{IsRoutable}
 use Rattle.track_graph.specs.Levels.{track_system_of}
@@ -31,12 +30,16 @@ pub record Reaches (guide : Guide) (level : ℕ) (p far : Point) : Type 0 where
 abbrev pub CoversAll : Guide → ℕ → Sides → Type 0
 CoversAll guide level s = (r : Point) → Holds s r → InGuide guide level r
 
--- a design, a state of it with a store of its shapes, and a net that is to be routed
-pub record IsGround (d : Design) (s : State) (n : ℕ) (shapes : List Shape) : Type 0 where
+-- a state of net n: it tells of each of its pins whether it is joined, and has no walk but of the net
+pub record IsNetStateOf (d : Design) (n : ℕ) (own : NetState) : Type 0 where
+  pub pins : length own.joined ≡ length (pins_of d n)
+  pub walks : All (IsWalkOf d n) own.walks
+
+-- a design, a net of it that is to be routed, and what stands of the net
+pub record IsGround (d : Design) (n : ℕ) (own : NetState) : Type 0 where
   pub design : IsDesign d
-  pub state : IsStateOf d s
   pub net : IsRoutable d n
-  pub stored : AreShapesOf d s shapes
+  pub of_net : IsNetStateOf d n own
 
 -- an edge from v that a legal walk may take
 pub record IsLegalEdge (d : Design) (n : ℕ) (r : Reading) (v : Vertex) (e : Edge) : Type 0 where

@@ -7,3 +7,4 @@ pub mod Stops
 pub mod Fitting
 pub mod Vertices
 pub mod Guided
+pub mod Stocks

@@ -1,16 +1,13 @@
 //! Where walks of a net may start and finish.
-ghost use Rattle.std.specs.Prelude.{◌≡◌, ◌++◌, ◌<◌, length, OnOk, IfOk};
-ghost use Rattle.track_graph.specs.Designs.{IsDesign};
-ghost use Rattle.track_graph.specs.Histories.{IsRoutable};
+ghost use Rattle.std.specs.Prelude.{◌≡◌, ◌++◌, length, OnOk, IfOk};
 ghost use Rattle.track_graph.specs.Entries.{pins_of};
-ghost use Rattle.track_graph.specs.Conditions.{IsStateOf};
 ghost use Rattle.track_graph.specs.Searches.{IsStart, IsFinish};
-ghost use Rattle.track_graph.specs.States.{net_state};
+ghost use Rattle.plain_route.specs.Ground.{IsGround};
 ghost use Rattle.plain_route.specs.Stops.{on_wire, ends_of, entries_on, wanted_entries, pin_entries, wire_entries, AreEntries};
 
 use rt_base::{Edge, Entry, EntryKind, Memory, Seq, Vertex, Walk};
 use std::alloc::Global;
-use track_graph::{Design, NetState, Pin, State};
+use track_graph::{Design, NetState, Pin};
 
 /// Adds all these entries.
 fn add_entries(entries: &mut Seq<Entry>, more: &[Entry]) -> Result<(), Memory>
@@ -95,26 +92,19 @@ fn pins_of(design: &Design, net: u32) -> &[Pin]
     }
 }
 
-/// What stands of a net.
-fn net_state(state: &State, net: u32) -> &NetState
-    requires { net < length state.now.nets }
-    ensures { result.now ≡ net_state state.now net }
-{
-    &state.nets.as_slice()[net as usize]
-}
-
 /// The entries at which a walk of a net may start: those of its joined pins, and each vertex of its
 /// standing walks.
-pub fn starts(alloc: Global, design: &Design, state: &State, net: u32) -> Result<Seq<Entry>, Memory>
-    requires design { IsDesign design.now }
-    requires routed { IsStateOf design.now state.now }
-    requires net { IsRoutable design.now net }
-    ensures { IfOk result (AreEntries design.now net (IsStart design.now net (net_state state.now net))) }
+pub fn starts(
+    alloc: Global,
+    design: &Design,
+    net: u32,
+    own: &NetState,
+) -> Result<Seq<Entry>, Memory>
+    requires { IsGround design.now net own.now }
+    ensures { IfOk result (AreEntries design.now net (IsStart design.now net own.now)) }
 {
-    let standing = net_state(state, net);
-    let pins = pins_of(design, net);
-    let mut entries = pin_entries(alloc, pins, standing.joined.as_slice(), true)?;
-    add_walks(&mut entries, standing.walks.as_slice())?;
+    let mut entries = pin_entries(alloc, pins_of(design, net), own.joined.as_slice(), true)?;
+    add_walks(&mut entries, own.walks.as_slice())?;
     Ok(entries)
 }
 
@@ -122,19 +112,11 @@ pub fn starts(alloc: Global, design: &Design, state: &State, net: u32) -> Result
 pub fn finishes(
     alloc: Global,
     design: &Design,
-    state: &State,
     net: u32,
+    own: &NetState,
 ) -> Result<Seq<Entry>, Memory>
-    requires design { IsDesign design.now }
-    requires routed { IsStateOf design.now state.now }
-    requires net { IsRoutable design.now net }
-    ensures { IfOk result (AreEntries design.now net (IsFinish design.now net (net_state state.now net))) }
+    requires { IsGround design.now net own.now }
+    ensures { IfOk result (AreEntries design.now net (IsFinish design.now net own.now)) }
 {
-    let standing = net_state(state, net);
-    pin_entries(
-        alloc,
-        pins_of(design, net),
-        standing.joined.as_slice(),
-        false,
-    )
+    pin_entries(alloc, pins_of(design, net), own.joined.as_slice(), false)
 }

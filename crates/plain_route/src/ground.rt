@@ -1,21 +1,21 @@
 //! What a search of a net looks at.
 ghost use Rattle.std.specs.Prelude.{◌≡◌, ◌==◌};
 ghost use Rattle.std.specs.List.{list_any};
-ghost use Rattle.plain_route.specs.declared.sense.Sense.TheVariants.{Soft};
-ghost use Rattle.plain_route.specs.Roles.{is_dear_net, is_absent_net, is_dear, is_forbidding, counts};
+ghost use Rattle.plain_route.specs.Roles.{is_rippable, is_dear_net, is_absent_net, is_dear, is_forbidding, counts};
 
 use crate::sense::Sense;
+use crate::stock::Stock;
 use rt_base::{Owner, Shape};
-use track_graph::{Design, State, may_rip};
+use track_graph::{Design, NetState};
 
-/// A design, a state of it, a store with the shapes of the state, the number of the net that is
-/// searched for, and what the standing wires of the other nets are taken for.
+/// A design, the number of the net that is searched for, what stands of this net, the shapes that
+/// stand, and what those of other nets are taken for.
 #[derive(Drop)]
-pub struct Ground<'a, S> {
+pub struct Ground<'a, K> {
     pub design: &'a Design,
-    pub state: &'a State,
-    pub store: &'a S,
     pub net: u32,
+    pub own: &'a NetState,
+    pub stock: &'a K,
     pub sense: &'a Sense,
 }
 
@@ -26,20 +26,17 @@ fn is_among(nets: &[u32], net: u32) -> bool
     nets.iter().any(|k| *k == net)
 }
 
-impl<'a, S> Ground<'a, S> {
-    /// Whether a net may be ripped for this one.
-    fn may_rip(&self, net: u32) -> bool
-        ensures { result ≡ is_dear_net self.now.design.now self.now.state.now self.now.net Soft net }
+impl<'a, K: Stock> Ground<'a, K> {
+    /// Whether a net may be ripped for this one. Takes no memory.
+    pub fn may_rip(&self, net: u32) -> bool
+        ensures { result ≡ is_rippable self.now.design.now (K.rips_of self.now.stock.now) self.now.net net }
     {
-        match self.state.nets.as_slice().get(net as usize) {
-            Some(standing) => may_rip(self.design, self.net, net, standing),
-            None => net != self.net && self.design.options.rips > 0,
-        }
+        net != self.net && self.stock.rips(net) < self.design.options.rips
     }
 
     /// Whether the wires of a net are dear.
     fn is_dear_net(&self, net: u32) -> bool
-        ensures { result ≡ is_dear_net self.now.design.now self.now.state.now self.now.net self.now.sense.now net }
+        ensures { result ≡ is_dear_net self.now.design.now (K.rips_of self.now.stock.now) self.now.net self.now.sense.now net }
     {
         match self.sense {
             Sense::Soft => self.may_rip(net),
@@ -59,7 +56,7 @@ impl<'a, S> Ground<'a, S> {
 
     /// Whether a shape is dear.
     fn is_dear(&self, shape: &Shape) -> bool
-        ensures { result ≡ is_dear self.now.design.now self.now.state.now self.now.net self.now.sense.now shape.now }
+        ensures { result ≡ is_dear self.now.design.now (K.rips_of self.now.stock.now) self.now.net self.now.sense.now shape.now }
     {
         match shape.owner {
             Owner::Net(net) => !shape.fixed && self.is_dear_net(net),
@@ -69,7 +66,7 @@ impl<'a, S> Ground<'a, S> {
 
     /// Whether a shape of another owner forbids.
     fn is_forbidding(&self, shape: &Shape) -> bool
-        ensures { result ≡ is_forbidding self.now.design.now self.now.state.now self.now.net self.now.sense.now shape.now }
+        ensures { result ≡ is_forbidding self.now.design.now (K.rips_of self.now.stock.now) self.now.net self.now.sense.now shape.now }
     {
         match shape.owner {
             Owner::Net(net) => {
@@ -81,7 +78,7 @@ impl<'a, S> Ground<'a, S> {
 
     /// Whether a shape counts: where it is dear, or where it forbids.
     pub(crate) fn counts(&self, dear: bool, shape: &Shape) -> bool
-        ensures { result ≡ counts self.now.design.now self.now.state.now self.now.net self.now.sense.now dear shape.now }
+        ensures { result ≡ counts self.now.design.now (K.rips_of self.now.stock.now) self.now.net self.now.sense.now dear shape.now }
     {
         if dear {
             self.is_dear(shape)

@@ -7,22 +7,22 @@ ghost use Rattle.rt_base.specs.Geometry.{distance};
 ghost use Rattle.track_graph.specs.Edges.{edge_cost_of};
 ghost use Rattle.plain_route.specs.Ground.{IsGround, IsStep};
 ghost use Rattle.plain_route.specs.Guided.{to_stops};
-ghost use Rattle.plain_route.specs.Senses.{reading_of};
+ghost use Rattle.plain_route.specs.Stocks.{stock_reading};
 ghost use Rattle.plain_route.specs.Vertices.{vertices_of};
 
 use crate::bounds::least_bound;
 use crate::ground::Ground;
+use crate::stock::Stock;
 use crate::steps::add_steps;
 use future_cost::Bound;
 use least_walk::Graph;
 use rt_base::{Edge, EdgeKind, Memory, Point, Seq, Vertex};
-use shape_grid::ShapeStore;
 use track_graph::Design;
 
 /// The edges that a legal walk may take, and bounds on what is left to the targets.
 #[derive(Drop)]
-pub struct Guided<'b, 'a, S> {
-    pub ground: &'b Ground<'a, S>,
+pub struct Guided<'b, 'a, K> {
+    pub ground: &'b Ground<'a, K>,
     pub bounds: Seq<Bound>,
 }
 
@@ -43,12 +43,12 @@ fn least_cost(design: &Design, v: Vertex, e: &Edge) -> u64
     }
 }
 
-impl<'b, 'a, S: ShapeStore> Graph for Guided<'b, 'a, S> {
-    ghost IsWhole = { λ g. IsGround g.ground.now.design.now g.ground.now.state.now g.ground.now.net (S.shapes g.ground.now.store.now) × All (λ (b : OfBound). IsSmall (under b)) g.bounds };
+impl<'b, 'a, K: Stock> Graph for Guided<'b, 'a, K> {
+    ghost IsWhole = { λ g. IsGround g.ground.now.design.now g.ground.now.net g.ground.now.own.now × All (λ (b : OfBound). IsSmall (under b)) g.bounds };
 
     ghost vertices = { λ g. vertices_of g.ground.now.design.now };
 
-    ghost HasEdge = { λ g. IsStep g.ground.now.design.now g.ground.now.net (reading_of g.ground.now.design.now g.ground.now.state.now g.ground.now.net g.ground.now.sense.now) };
+    ghost HasEdge = { λ g. IsStep g.ground.now.design.now g.ground.now.net (stock_reading g.ground.now.design.now (K.rips_of g.ground.now.stock.now) g.ground.now.net g.ground.now.sense.now (K.shapes g.ground.now.stock.now)) };
 
     ghost bound_of = { λ g. to_stops g.ground.now.design.now g.bounds };
 

@@ -14,9 +14,11 @@ mod plain;
 mod positions;
 mod sense;
 mod steps;
+mod stock;
 mod stops;
 
 pub use answer::search;
 pub use ground::Ground;
 pub use plain::{plain_search, plain_soft};
 pub use sense::Sense;
+pub use stock::{Standing, Stock};

@@ -10,6 +10,7 @@ ghost use Rattle.track_graph.specs.States.{net_state};
 use crate::answer::search;
 use crate::ground::Ground;
 use crate::sense::Sense;
+use crate::stock::Standing;
 use least_walk::Tables;
 use rt_base::{Memory, Walk};
 use standing_shapes::stored;
@@ -33,11 +34,15 @@ pub fn plain_search(
     ensures none { IfOk result (λ w. IfNone w (NoneLegal design.now net (net_state state.now net) (hard_reading design.now state.now))) }
 {
     let store = stored(alloc, design, state)?;
-    let ground = Ground {
-        design,
+    let standing = Standing {
         state,
         store: &store,
+    };
+    let ground = Ground {
+        design,
         net,
+        own: standing.of_net(net),
+        stock: &standing,
         sense: &Sense::Hard,
     };
     search(alloc, &ground, &mut Tables::new(alloc))
@@ -60,11 +65,15 @@ pub fn plain_soft(
     ensures none { IfOk result (λ w. IfNone w (NoneLegal design.now net (net_state state.now net) (soft_reading design.now state.now net))) }
 {
     let store = stored(alloc, design, state)?;
-    let ground = Ground {
-        design,
+    let standing = Standing {
         state,
         store: &store,
+    };
+    let ground = Ground {
+        design,
         net,
+        own: standing.of_net(net),
+        stock: &standing,
         sense: &Sense::Soft,
     };
     search(alloc, &ground, &mut Tables::new(alloc))

@@ -5,4 +5,4 @@ use Rattle.crossed_nets.proofs.nets.hits.Given as goal
 
 abbrev pub invariant-loop-shape : goal.invariant-loop-shape
 invariant-loop-shape g l =
-    (m : ℕ) → has l.nets m ≡ list_any (λ a. list_any (is_hit l.ground.design.now l.ground.state.now l.ground.net m a) (g.S.ShapeStore.shapes l.ground.store.now)) (take l.shape-index l.shapes)
+    (m : ℕ) → has l.nets m ≡ list_any (λ a. list_any (is_hit l.ground.design.now (g.K.Stock.rips_of l.ground.stock.now) l.ground.net m a) (g.K.Stock.shapes l.ground.stock.now)) (take l.shape-index l.shapes)

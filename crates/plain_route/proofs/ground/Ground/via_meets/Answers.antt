@@ -7,7 +7,8 @@ use Rattle.rt_base.specs.Ranges.{AreSidesWithin}
 use Rattle.rt_base.specs.Sides.{Sides}
 use Rattle.rt_base.specs.declared.tech.Shape.{Shape}
 use Rattle.track_graph.specs.Metal.{Metal, shape_of, shapes_of, via_rects, via_metal}
-use Rattle.plain_route.specs.Senses.{picked, reading_of}
+use Rattle.plain_route.specs.Stocks.{stock_reading}
+use Rattle.plain_route.specs.Senses.{picked}
 use Rattle.plain_route.proofs.FitLemmas.{via_rect_fits, via_shape_at, via_shape_count, via_rect_within}
 use Rattle.plain_route.proofs.ground.Ground.via_meets.Goals as goal
 
@@ -40,7 +41,7 @@ returns-then-meets g c =
     let n = c.args.self.now.net in
     let i = c.loop-layer.layer-index in
     let m : Metal = c.loop-layer-item.result in
-    let others : List Shape = picked c.args.dear (reading_of d c.args.self.now.state.now n c.args.self.now.sense.now) in
+    let others : List Shape = picked c.args.dear (stock_reading d (g.K.Stock.rips_of c.args.self.now.stock.now) n c.args.self.now.sense.now (g.K.Stock.shapes c.args.self.now.stock.now)) in
     let p : Shape → Bool = λ a. list_any (conflict_of d.tech a) others in
     let xs : List Shape = shapes_of n (via_metal d.tech c.args.via c.args.point) in
     let lt : i < length (via_rects d.tech c.args.via) = inside _ _ _ c.via_rects-layer-items.ensures c.loop-layer-test.true in
@@ -57,7 +58,7 @@ loop-layer-preserved g c =
     let n = c.args.self.now.net in
     let i = c.loop-layer.layer-index in
     let m : Metal = c.loop-layer-item.result in
-    let others : List Shape = picked c.args.dear (reading_of d c.args.self.now.state.now n c.args.self.now.sense.now) in
+    let others : List Shape = picked c.args.dear (stock_reading d (g.K.Stock.rips_of c.args.self.now.stock.now) n c.args.self.now.sense.now (g.K.Stock.shapes c.args.self.now.stock.now)) in
     let p : Shape → Bool = λ a. list_any (conflict_of d.tech a) others in
     let xs : List Shape = shapes_of n (via_metal d.tech c.args.via c.args.point) in
     let lt : i < length (via_rects d.tech c.args.via) = inside _ _ _ c.via_rects-layer-items.ensures c.loop-layer-test.true in
