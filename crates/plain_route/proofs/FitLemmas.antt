@@ -1,5 +1,5 @@
 -- The shapes of the edges and entries of a net stand on layers that there are, in range.
-use Rattle.std.proofs.Common.{◌≡◌, ⊎_elim, ℕ, ◌+◌, ◌^◌, ◌<◌, ◌≤◌, ◌/◌, ℤ, pos, ◌+ℤ◌, ◌-ℤ◌, unsigned_abs, List, [], ◌∷◌, ◌++◌, Bool, true, false, cond, ◌==◌, length, map, Option, Some, None, option_map, slice_get, unwrap_or, get_or, All, refl, sym, subst, ap, ◌∙◌, arith}
+use Rattle.std.proofs.Common.{◌≡◌, ⊎_elim, ℕ, ◌+◌, ◌^◌, ◌<◌, ◌≤◌, ◌/◌, ℤ, pos, ◌+ℤ◌, ◌-ℤ◌, unsigned_abs, List, [], ◌∷◌, ◌++◌, Bool, true, false, cond, ◌==◌, length, map, Option, Some, None, option_map, slice_get, unwrap_or, get_or, All, refl, sym, subst, ap, ◌∙◌, filter, not, ◌&&◌, arith}
 use Rattle.std.specs.Int.{int_min, int_max}
 use Rattle.std.proofs.lemmas.Int.{ints}
 use Rattle.std.proofs.lemmas.List.Elements.{All-nil, All-cons, All-head, All-tail, All-append}
@@ -26,7 +26,6 @@ use Rattle.track_graph.specs.declared.design.Design.{Design}
 use Rattle.track_graph.specs.Designs.{IsDesign, IsTech, IsViaOf, IsLayerOf}
 use Rattle.track_graph.specs.Edges.{IsEdge, IsVia, Joins, FitsKind, edge_cost_of, kind_cost}
 use Rattle.track_graph.specs.Searches.{some_conflict}
-use Rattle.track_graph.specs.declared.history.State.{State}
 use Rattle.track_graph.specs.Entries.{entry_part, entry_kind_part, piece_metal, stub_metal, corner_of, rect_of}
 use Rattle.track_graph.specs.Levels.{track_system_of, levels, number_of, layer_no, width_of}
 use Rattle.track_graph.specs.Metal.{Metal, shape_of, shapes_of, wire_metal, via_rects, via_metal, half_width}

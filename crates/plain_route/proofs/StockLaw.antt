@@ -1,5 +1,5 @@
 -- The law of stocks: shapes that stand for a state have the legal walks of the state, at the same costs.
-use Rattle.std.proofs.Common.{◌≡◌, ℕ, List, [], ◌∷◌, ◌++◌, Bool, true, false, cond, not, ◌&&◌, ◌||◌, ◌==◌, nat_lt, filter, Contains, refl, sym, ap, subst, ◌∙◌}
+use Rattle.std.proofs.Common.{◌≡◌, ℕ, List, [], ◌∷◌, ◌++◌, Bool, true, false, cond, not, ◌&&◌, ◌||◌, ◌==◌, nat_lt, filter, refl, sym, ap, subst, ◌∙◌}
 use Rattle.std.specs.List.{list_any}
 use Rattle.rt_base.specs.Conflict.{conflict_of}
 use Rattle.rt_base.specs.declared.tech.Owner.{Owner}
@@ -18,7 +18,7 @@ use Rattle.track_graph.proofs.ReadingLaw.{any_same, alike-answers}
 use Rattle.plain_route.specs.declared.sense.Sense.{Sense}
 use Rattle.plain_route.specs.declared.sense.Sense.TheVariants.{Hard, Soft, Without}
 use Rattle.plain_route.specs.Ground.{IsGround, IsNetStateOf}
-use Rattle.plain_route.specs.Roles.{is_dear_net, is_absent_net, is_net_with, is_dear, is_forbidding, counts}
+use Rattle.plain_route.specs.Roles.{is_dear_net, is_absent_net, is_dear, is_forbidding, counts}
 use Rattle.plain_route.specs.Senses.{picked, reading_of}
 use Rattle.plain_route.specs.Stocks.{stock_reading, StandFor}
 use Rattle.plain_route.proofs.AnyLemmas.{any_by_sums}

@@ -1,9 +1,8 @@
 -- What a search of a net looks at, and the edges and entries that a legal walk may take there.
-use Rattle.std.specs.Prelude.{◌≡◌, ℕ, List, false, length, All, Contains}
+use Rattle.std.specs.Prelude.{◌≡◌, ℕ, false, length, All, Contains}
 use Rattle.rt_base.specs.Sides.{Sides}
 use Rattle.rt_base.specs.Geometry.{Holds, high_of}
 use Rattle.rt_base.specs.declared.geometry.Point.{Point}
-use Rattle.rt_base.specs.declared.tech.Shape.{Shape}
 use Rattle.rt_base.specs.declared.walk.Edge.{Edge}
 use Rattle.rt_base.specs.declared.walk.Entry.{Entry}
 use Rattle.rt_base.specs.declared.walk.Vertex.{Vertex}

@@ -11,8 +11,8 @@ ghost use Rattle.plain_route.specs.Stocks.{stock_reading};
 ghost use Rattle.plain_route.specs.Senses.{picked};
 
 use crate::ground::Ground;
-use rt_base::{LayerNo, Shape, Tech, conflict};
 use crate::stock::Stock;
+use rt_base::{LayerNo, Shape, Tech, conflict};
 use shape_grid::ShapeTest;
 
 /// The test for conflicts of a shape with those that are dear, or with those that forbid.

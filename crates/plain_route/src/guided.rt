@@ -12,8 +12,8 @@ ghost use Rattle.plain_route.specs.Vertices.{vertices_of};
 
 use crate::bounds::least_bound;
 use crate::ground::Ground;
-use crate::stock::Stock;
 use crate::steps::add_steps;
+use crate::stock::Stock;
 use future_cost::Bound;
 use least_walk::Graph;
 use rt_base::{Edge, EdgeKind, Memory, Point, Seq, Vertex};

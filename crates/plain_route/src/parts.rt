@@ -14,10 +14,10 @@ ghost use Rattle.plain_route.specs.Senses.{picked};
 ghost use Rattle.plain_route.specs.Vertices.{vertices_of};
 
 use crate::ground::Ground;
-use crate::stock::Stock;
 use crate::guide::{is_edge_in_guide, is_in_guide};
 use crate::leads::is_edge_from;
 use crate::sense::Sense;
+use crate::stock::Stock;
 use rt_base::{Edge, EdgeKind, Entry, Memory, Owner, Point, Shape, Vertex};
 use std::alloc::Global;
 use track_graph::{edge_cost, entry_cost, entry_shapes, guide_of, is_edge, via_rects, wire_shape};

@@ -1,8 +1,7 @@
-use Rattle.std.proofs.Common.{ℕ, List, Option, Some, None, IfSome, IfNone, IfOk, Result, Ok, Err, Contains, get_or, sym, subst, ◌∙◌}
+use Rattle.std.proofs.Common.{ℕ, List, Contains, get_or, sym, subst, ◌∙◌}
 use Rattle.std.proofs.lemmas.List.{get_or_default}
 use Rattle.std.proofs.lemmas.List.Elements.{Contains-get_or}
 use Rattle.rt_base.specs.declared.walk.Entry.{Entry}
-use Rattle.rt_base.specs.declared.walk.Walk.{Walk}
 use Rattle.least_walk.specs.declared.graph.Stop.{Stop}
 use Rattle.track_graph.specs.declared.design.Design.{Design}
 use Rattle.track_graph.specs.declared.history.NetState.{NetState}

@@ -1,4 +1,4 @@
-use Rattle.std.proofs.Common.{rules, ◌≡◌, Bool, ◌&&◌, List, filter, w64, ap, ◌∙◌, sym}
+use Rattle.std.proofs.Common.{rules, ◌≡◌, Bool, ◌&&◌, List, w64, ap, ◌∙◌}
 use Rattle.std.specs.List.{list_any}
 use Rattle.rt_base.specs.Conflict.{conflict_of}
 use Rattle.rt_base.specs.Geometry.{grown}
