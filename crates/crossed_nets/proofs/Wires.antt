@@ -1,5 +1,5 @@
 -- The wires among the shapes of a state that stand for a net.
-use Rattle.std.proofs.Common.{◌≡◌, ◌∙◌, ℕ, ◌+◌, List, ◌++◌, Bool, false, not, ◌&&◌, ◌||◌, ◌==◌, nat_lt, Some, slice_get, All, Contains, refl, sym, ap}
+use Rattle.std.proofs.Common.{◌≡◌, ◌∙◌, ℕ, List, Bool, true, false, arith, not, ◌&&◌, ◌||◌, ◌==◌, nat_lt, All, refl, sym, ap}
 use Rattle.std.specs.List.{list_any}
 use Rattle.std.proofs.lemmas.List.Folds.{list_any-append}
 use Rattle.rt_base.specs.Conflict.{conflict_of}
@@ -8,7 +8,6 @@ use Rattle.rt_base.specs.declared.tech.Owner.TheVariants.{Net as OfNet, Nobody}
 use Rattle.rt_base.specs.declared.tech.Shape.{Shape}
 use Rattle.rt_base.specs.declared.walk.Walk.{Walk}
 use Rattle.track_graph.specs.declared.design.Design.{Design}
-use Rattle.track_graph.specs.declared.history.NetState.{NetState}
 use Rattle.track_graph.specs.declared.history.State.{State}
 use Rattle.track_graph.specs.Designs.{IsDesign, IsFixed}
 use Rattle.track_graph.specs.Histories.{crossed_from}
@@ -18,7 +17,7 @@ use Rattle.track_graph.proofs.ReadingLaw.{any_same}
 use Rattle.plain_route.specs.Roles.{is_net_with, is_rippable}
 use Rattle.plain_route.specs.Stocks.{StandFor}
 use Rattle.plain_route.proofs.AnyLemmas.{any_const, all_then}
-use Rattle.plain_route.proofs.CountLemmas.{IsOf, Tells, any_standing, ripped_in, state_at}
+use Rattle.plain_route.proofs.CountLemmas.{IsOf, any_standing, ripped_in, state_at}
 use Rattle.crossed_nets.specs.Hits.{has, is_hit, is_wire_of, AreCrossed}
 use Rattle.crossed_nets.proofs.Conflicts.{crossed-has, is_rippable_as}
 use Rattle.crossed_nets.proofs.CrossedLemmas.{crossed-ascend_from}

@@ -4,8 +4,10 @@
 mod choice;
 mod extent;
 mod net_order;
+mod next;
 mod one_thread;
 mod progress;
 
+pub use choice::Choice;
 pub use net_order::order;
 pub use one_thread::finish;

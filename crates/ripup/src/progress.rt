@@ -7,7 +7,8 @@ ghost use Rattle.track_graph.specs.Designs.{IsDesign};
 ghost use Rattle.track_graph.specs.Histories.{IsRight, IsRoutable};
 ghost use Rattle.track_graph.specs.States.{after, net_state};
 
-use crate::choice::next_block;
+use crate::net_order::last_first;
+use crate::next::next_block;
 use crate::net_order::last_first;
 use least_walk::Tables;
 use rt_base::Memory;

@@ -1,4 +1,4 @@
-use Rattle.std.proofs.Common.{◌≡◌, ◌∙◌, ℕ, List, All, ap, subst, sym}
+use Rattle.std.proofs.Common.{◌∙◌, ℕ, List, All, ap, subst, sym}
 use Rattle.std.specs.List.{list_any}
 use Rattle.rt_base.specs.declared.tech.Shape.{Shape}
 use Rattle.rt_base.specs.declared.walk.Walk.{Walk}
