@@ -13,11 +13,7 @@ use std::alloc::Global;
 use track_graph::walk_shapes;
 
 /// The nets that these shapes cross, one or more times each.
-fn hits<K: Stock>(
-    alloc: Global,
-    ground: &Ground<K>,
-    shapes: &[Shape],
-) -> Result<Seq<u32>, Memory>
+fn hits<K: Stock>(alloc: Global, ground: &Ground<K>, shapes: &[Shape]) -> Result<Seq<u32>, Memory>
     requires ground { IsGround ground.now.design.now ground.now.net ground.now.own.now }
     requires shapes { All (IsFitting ground.now.design.now.tech ground.now.net) shapes.now }
     ensures { IfOk result (λ nets. (m : ℕ) → has nets m ≡ list_any (λ a. list_any (is_hit ground.now.design.now (K.rips_of ground.now.stock.now) ground.now.net m a) (K.shapes ground.now.stock.now)) shapes.now) }
@@ -43,11 +39,7 @@ fn ascend(numbers: &mut Vec<u32>)
 ///
 /// The stock is asked once for each shape of the walk, for the shapes that are nearer to it than the
 /// layer's largest spacing. The only error is want of memory.
-pub fn crossed<K: Stock>(
-    alloc: Global,
-    ground: &Ground<K>,
-    walk: &Walk,
-) -> Result<Seq<u32>, Memory>
+pub fn crossed<K: Stock>(alloc: Global, ground: &Ground<K>, walk: &Walk) -> Result<Seq<u32>, Memory>
     requires ground { IsGround ground.now.design.now ground.now.net ground.now.own.now }
     requires walk { IsNetWalk ground.now.design.now ground.now.net walk.now }
     ensures { IfOk result (AreCrossed ground.now.design.now (K.rips_of ground.now.stock.now) ground.now.net walk.now (K.shapes ground.now.stock.now)) }

@@ -4,6 +4,7 @@ pub mod HistoryLemmas
 pub mod HeadlineLemmas
 pub mod MarkLemmas
 pub mod SearchLemmas
+mod ChoiceLemmas
 pub mod BlockLists
 pub mod TakenLemmas
 pub mod EffortLemmas

@@ -1,3 +1,4 @@
 pub mod Hulls
 pub mod Headline
 pub mod Progress
+pub mod Choices

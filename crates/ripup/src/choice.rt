@@ -20,10 +20,14 @@ use track_graph::{Design, NetState};
 #[derive(Debug, Drop)]
 pub enum Choice {
     /// A walk of least cost.
-    Wire { walk: Walk },
+    Wire {
+        walk: Walk,
+    },
     /// No walk is legal, and a least soft walk crosses these nets beside those that are held: at
     /// least one, ascending.
-    Widen { nets: Seq<u32> },
+    Widen {
+        nets: Seq<u32>,
+    },
     /// No walk is legal. The ripped nets, ascending, are exactly those that `soft`, a least soft walk,
     /// crosses, and `walk` is one of least cost without them.
     RipFor {
@@ -162,12 +166,7 @@ impl<'a, K: Stock> Ask<'a, K> {
     /// What comes next for the net: a least wire; where no walk is legal, a least wire for which exactly
     /// the nets are ripped that a least soft walk crosses, or, where some of them aren't held, these;
     /// where there is no soft walk either, the mark.
-    pub fn choose(
-        &self,
-        alloc: Global,
-        held: &Held,
-        tables: &mut Tables,
-    ) -> Result<Choice, Memory>
+    pub fn choose(&self, alloc: Global, held: &Held, tables: &mut Tables) -> Result<Choice, Memory>
         requires ground { IsGround self.now.design.now self.now.net self.now.own.now }
         requires not_stuck { self.now.own.now.stuck ≡ false }
         requires unjoined { all_joined self.now.own.now ≡ false }

@@ -9,7 +9,6 @@ ghost use Rattle.track_graph.specs.States.{after, net_state};
 
 use crate::net_order::last_first;
 use crate::next::next_block;
-use crate::net_order::last_first;
 use least_walk::Tables;
 use rt_base::Memory;
 use shape_grid::Tile;
