@@ -1,5 +1,5 @@
 //! Designs under the command's words: what is routed, and what is refused.
-use crate::tests::{DEF, HEAD, LEF, Ran, first_lines, route, run_words};
+use crate::tests::{DEF, HEAD, LEF, Ran, first_lines, guided_files, route, run_words};
 use std::alloc::{AllocError, Global};
 use std::test::Fail;
 
@@ -29,23 +29,9 @@ const DEAR: &[&str] = &[
     "route", "l", "d", "-", "o", "j", "--tile", "64", "--via", "1601",
 ];
 
-/// The files `l`, `d` and `g`.
-fn files_of(alloc: Global, case: &Case) -> Result<Vec<(String, Vec<u8>)>, AllocError> {
-    let mut def = Vec::from_slice(alloc, HEAD)?;
-    def.extend_from_slice(case.def)?;
-    def.extend_from_slice(b"END DESIGN\n")?;
-    let mut files = Vec::new(alloc);
-    files.push((String::from_str(alloc, "l")?, Vec::from_slice(alloc, LEF)?))?;
-    files.push((String::from_str(alloc, "d")?, def))?;
-    files.push((
-        String::from_str(alloc, "g")?,
-        Vec::from_slice(alloc, case.guide)?,
-    ))?;
-    Ok(files)
-}
-
 fn run_case(alloc: Global, case: &Case) -> Result<Ran, AllocError> {
-    run_words(alloc, case.words, files_of(alloc, case)?, &[], &[])
+    let files = guided_files(alloc, HEAD, case.def, case.guide)?;
+    run_words(alloc, case.words, files, &[], &[])
 }
 
 /// What is routed.
@@ -547,14 +533,8 @@ const UNREAD: [(&[&str], &[u32], &[u8]); 5] = [
 fn guides_are_a_file(rt: HostRuntime) -> Result<(), Fail> {
     let alloc = rt.alloc();
     for (words, fails, says) in &UNREAD {
-        let case = Case {
-            words,
-            def: b"",
-            guide: b"",
-            status: 0,
-            says,
-        };
-        let ran = run_words(alloc, words, files_of(alloc, &case)?, fails, &[])?;
+        let files = guided_files(alloc, HEAD, b"", b"")?;
+        let ran = run_words(alloc, words, files, fails, &[])?;
         assert_eq!(rt; ran.out.text(), *says);
     }
     Ok(())

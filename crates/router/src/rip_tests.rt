@@ -1,9 +1,10 @@
 //! Designs in which nets are ripped, with journals that were counted by hand.
-use crate::tests::{HEAD, LEF, Ran, run_words};
-use std::alloc::{AllocError, Global};
+use crate::tests::{HEAD, guided_files, run_words};
+use std::alloc::Global;
+use std::process::Abort;
 use std::test::Fail;
 
-/// The words, the head of DEF and the text behind it, the guides, and how the run ends. Where the
+/// The words, the head of DEF and the text after it, the guides, and how the run ends. Where the
 /// journal is left out, the report alone is compared.
 #[derive(Drop)]
 struct Case {
@@ -657,63 +658,31 @@ const EMPTIED_CASES: [Case; 5] = [
     },
 ];
 
-/// The files `l`, `d` and `g`.
-fn files_of(alloc: Global, case: &Case) -> Result<Vec<(String, Vec<u8>)>, AllocError> {
-    let mut def = Vec::from_slice(alloc, case.head)?;
-    def.extend_from_slice(case.def)?;
-    def.extend_from_slice(b"END DESIGN\n")?;
-    let mut files = Vec::new(alloc);
-    files.push((String::from_str(alloc, "l")?, Vec::from_slice(alloc, LEF)?))?;
-    files.push((String::from_str(alloc, "d")?, def))?;
-    files.push((
-        String::from_str(alloc, "g")?,
-        Vec::from_slice(alloc, case.guide)?,
-    ))?;
-    Ok(files)
-}
-
-fn run_case(alloc: Global, case: &Case) -> Result<Ran, AllocError> {
-    run_words(alloc, case.words, files_of(alloc, case)?, &[], &[])
+/// Whether each design ends as it says.
+fn hold(rt: &impl Abort, alloc: Global, cases: &[Case]) -> Result<(), Fail> {
+    for case in cases {
+        let files = guided_files(alloc, case.head, case.def, case.guide)?;
+        let ran = run_words(alloc, case.words, files, &[], &[])?;
+        assert_eq!(rt; ran.done.status, case.status);
+        assert_eq!(rt; ran.out.text(), case.says);
+        if let Some(journal) = case.journal {
+            assert_eq!(rt; ran.files.file("j"), Some(journal));
+        }
+    }
+    Ok(())
 }
 
 #[test]
 fn rips_a_net_in_the_way(rt: HostRuntime) -> Result<(), Fail> {
-    let alloc = rt.alloc();
-    for case in &CROSSED_CASES {
-        let ran = run_case(alloc, case)?;
-        assert_eq!(rt; ran.done.status, case.status);
-        assert_eq!(rt; ran.out.text(), case.says);
-        if let Some(journal) = case.journal {
-            assert_eq!(rt; ran.files.file("j"), Some(journal));
-        }
-    }
-    Ok(())
+    hold(&rt, rt.alloc(), &CROSSED_CASES)
 }
 
 #[test]
 fn rips_turn_by_turn(rt: HostRuntime) -> Result<(), Fail> {
-    let alloc = rt.alloc();
-    for case in &TURNED_CASES {
-        let ran = run_case(alloc, case)?;
-        assert_eq!(rt; ran.done.status, case.status);
-        assert_eq!(rt; ran.out.text(), case.says);
-        if let Some(journal) = case.journal {
-            assert_eq!(rt; ran.files.file("j"), Some(journal));
-        }
-    }
-    Ok(())
+    hold(&rt, rt.alloc(), &TURNED_CASES)
 }
 
 #[test]
 fn rips_all_wires_of_a_net(rt: HostRuntime) -> Result<(), Fail> {
-    let alloc = rt.alloc();
-    for case in &EMPTIED_CASES {
-        let ran = run_case(alloc, case)?;
-        assert_eq!(rt; ran.done.status, case.status);
-        assert_eq!(rt; ran.out.text(), case.says);
-        if let Some(journal) = case.journal {
-            assert_eq!(rt; ran.files.file("j"), Some(journal));
-        }
-    }
-    Ok(())
+    hold(&rt, rt.alloc(), &EMPTIED_CASES)
 }

@@ -135,6 +135,24 @@ fn files_of(alloc: Global, lef: &[u8], def: &[u8]) -> Result<Vec<(String, Vec<u8
     Ok(files)
 }
 
+/// The files `l`, `d` and `g`: the text of DEF is this head and what comes after it.
+pub fn guided_files(
+    alloc: Global,
+    head: &[u8],
+    def: &[u8],
+    guide: &[u8],
+) -> Result<Vec<(String, Vec<u8>)>, AllocError> {
+    let mut text = Vec::from_slice(alloc, head)?;
+    text.extend_from_slice(def)?;
+    text.extend_from_slice(b"END DESIGN\n")?;
+    let mut files = files_of(alloc, LEF, &text)?;
+    files.push((
+        String::from_str(alloc, "g")?,
+        Vec::from_slice(alloc, guide)?,
+    ))?;
+    Ok(files)
+}
+
 /// What a run leaves.
 #[derive(Drop)]
 pub struct Ran {
