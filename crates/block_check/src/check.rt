@@ -54,12 +54,7 @@ impl<'a, S: ShapeStore> Check<'a, S> {
     }
 
     /// Whether no walk is legal with the wires of the other nets taken in this sense.
-    fn has_none(
-        &self,
-        alloc: Global,
-        sense: &Sense,
-        tables: &mut Tables,
-    ) -> Result<bool, Memory>
+    fn has_none(&self, alloc: Global, sense: &Sense, tables: &mut Tables) -> Result<bool, Memory>
         requires { CanCheck self.now.design.now self.now.standing.state.now self.now.net (S.shapes self.now.standing.store.now) }
         ensures { IfOk result (λ b. IsTrue b ↔ NoneLegal self.now.design.now self.now.net (net_state self.now.standing.state.now self.now.net) (reading_of self.now.design.now self.now.standing.state.now self.now.net sense.now)) }
     {

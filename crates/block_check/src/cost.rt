@@ -12,11 +12,7 @@ use std::alloc::Global;
 
 /// What these edges cost from a vertex on, and where they end, `None` where no legal walk may take
 /// them.
-fn path_cost<K: Stock>(
-    ground: &Ground<K>,
-    start: Vertex,
-    edges: &[Edge],
-) -> Option<(u128, Vertex)>
+fn path_cost<K: Stock>(ground: &Ground<K>, start: Vertex, edges: &[Edge]) -> Option<(u128, Vertex)>
     requires ground { IsGround ground.now.design.now ground.now.net ground.now.own.now }
     ensures some { IfSome result (IsLegalPath ground.now.design.now ground.now.net (stock_reading ground.now.design.now (K.rips_of ground.now.stock.now) ground.now.net ground.now.sense.now (K.shapes ground.now.stock.now)) start edges.now) }
     ensures none { IfNone result (AreLegalEdges ground.now.design.now ground.now.net (stock_reading ground.now.design.now (K.rips_of ground.now.stock.now) ground.now.net ground.now.sense.now (K.shapes ground.now.stock.now)) start edges.now → ⊥) }

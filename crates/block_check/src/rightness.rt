@@ -80,7 +80,10 @@ pub fn right_in<S: ShapeStore>(
         Block::Wire { walk, .. } => check.is_least(alloc, &Sense::Hard, walk, tables),
         Block::Stuck { .. } => check.is_stuck(alloc, tables),
         Block::RipFor {
-            soft, ripped, walk, ..
+            soft,
+            ripped,
+            walk,
+            ..
         } => {
             if !check.must_rip(alloc, soft, ripped, tables)? {
                 return Ok(false);

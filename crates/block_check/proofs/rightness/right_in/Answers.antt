@@ -14,7 +14,7 @@ returns-then-not-branch g c =
     let waiting = c.is_waiting.ensures.0 c.if-not-is_waiting.false in
     let same = rip-right c.args.design.now c.args.state.now c.args.block.now c.net_of-net.result c.net_of-net.ensures waiting _ c.in-RipFor.soft c.in-RipFor.ripped c.in-RipFor.walk c.in-RipFor.is in (
       λ yes. absurd (false≢true yes),
-      λ right. absurd (false≢true (sym c.if-not-branch.true ∙ c.in_ok-must_rip.ensures.1 (same.1 right).0)),
+      λ right. absurd (false≢true (sym c.if-not-branch.true ∙ c.in_ok-must_rip-in-RipFor.ensures.1 (same.1 right).0)),
     )
 
 pub returns-in-Wire : goal.returns-in-Wire
@@ -35,7 +35,7 @@ returns-in_ok-sense-in-RipFor g c =
     let ripped : List ℕ = c.in-RipFor.ripped in
     let waiting = c.is_waiting.ensures.0 c.if-not-is_waiting.false in
     let same = rip-right d s c.args.block.now n c.net_of-net.ensures waiting _ c.in-RipFor.soft ripped c.in-RipFor.walk c.in-RipFor.is in
-    let must = c.in_ok-must_rip.ensures.0 c.if-not-branch.false in
-    let without : c.in_ok-sense.sense ≡ Without ripped = c.in_ok-sense.ensures ∙ ap (λ (xs : List ℕ). Without xs) c.as_slice.ensures in
-    tests-same c.is_least-2.result (λ least. same.0 (must, least), λ right. (same.1 right).1)
-    (subst (λ (x : Sense). IfOk c.is_least-2.result (λ b. IsTrue b ↔ IsLeast d n (net_state s n) (reading_of d s n x) c.in-RipFor.walk)) without c.is_least-2.ensures)
+    let must = c.in_ok-must_rip-in-RipFor.ensures.0 c.if-not-branch.false in
+    let without : c.in_ok-sense-in-RipFor.sense ≡ Without ripped = c.in_ok-sense-in-RipFor.ensures ∙ ap (λ (xs : List ℕ). Without xs) c.as_slice.ensures in
+    tests-same c.is_least-in-RipFor.result (λ least. same.0 (must, least), λ right. (same.1 right).1)
+    (subst (λ (x : Sense). IfOk c.is_least-in-RipFor.result (λ b. IsTrue b ↔ IsLeast d n (net_state s n) (reading_of d s n x) c.in-RipFor.walk)) without c.is_least-in-RipFor.ensures)
