@@ -12,8 +12,6 @@ use Rattle.rt_base.specs.declared.walk.Vertex.{Vertex}
 use Rattle.rt_base.specs.declared.walk.Walk.{Walk}
 use Rattle.track_graph.specs.declared.design.Design.{Design}
 use Rattle.track_graph.specs.declared.history.NetState.{NetState}
-use Rattle.track_graph.specs.declared.history.State.{State}
-use Rattle.track_graph.specs.Conditions.{IsStateOf}
 use Rattle.track_graph.specs.Designs.{IsDesign}
 use Rattle.track_graph.specs.Edges.{edge_cost_of, edge_metal}
 use Rattle.track_graph.specs.Entries.{entries_of, entry_part}
@@ -21,17 +19,16 @@ use Rattle.track_graph.specs.Levels.{track_system_of}
 use Rattle.track_graph.specs.Metal.{Metal, shapes_of}
 use Rattle.track_graph.specs.NetWalks.{IsNetEntry}
 use Rattle.track_graph.specs.Searches.{Reading, IsFinish, IsLegal, IsStart, guide_of, part_cost, some_conflict, walk_cost}
-use Rattle.track_graph.specs.States.{net_state}
 use Rattle.track_graph.specs.Walks.{IsPath, PathInGuide, parts_shapes, path_parts, vertices_of}
 use Rattle.track_graph.proofs.WalkLemmas.{walks-vertex}
-use Rattle.plain_route.specs.Ground.{IsOpen, IsStopAt}
+use Rattle.plain_route.specs.Ground.{IsNetStateOf, IsOpen, IsStopAt}
 use Rattle.block_check.specs.Legal.{AreLegalEdges, IsLegalAt, IsLegalPath, path_cost}
 
--- where a walk of a state may start there is an entry of the net
-pub start-net_entry : (d : Design) (s : State) (n : ℕ) (e : Entry) → IsDesign d → IsStateOf d s → IsStart d n (net_state s n) e → IsNetEntry d n e
-start-net_entry d s n e ok of_design h = ⊎_elim
-    (λ (p : (pin : ℕ) × (slice_get (net_state s n).joined pin ≡ Some true) × Contains (entries_of d n pin) e). inl (p.0, p.2))
-    (λ (p : (e.kind ≡ OnWire) × Any (λ (w : Walk). Contains (vertices_of w.start.vertex w.edges) e.vertex) (net_state s n).walks). inr (p.0, walks-vertex d n (net_state s n).walks e.vertex ok (of_design.walks n) p.1))
+-- where a walk of a net may start there is an entry of the net
+pub start-net_entry : (d : Design) (n : ℕ) (own : NetState) (e : Entry) → IsDesign d → IsNetStateOf d n own → IsStart d n own e → IsNetEntry d n e
+start-net_entry d n own e ok of_net h = ⊎_elim
+    (λ (p : (pin : ℕ) × (slice_get own.joined pin ≡ Some true) × Contains (entries_of d n pin) e). inl (p.0, p.2))
+    (λ (p : (e.kind ≡ OnWire) × Any (λ (w : Walk). Contains (vertices_of w.start.vertex w.edges) e.vertex) own.walks). inr (p.0, walks-vertex d n own.walks e.vertex ok of_net.walks p.1))
     h
 
 -- and where it may finish

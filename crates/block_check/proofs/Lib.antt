@@ -1,4 +1,4 @@
 mod Members
 mod LegalLemmas
-mod LayerLemmas
-mod CrossedLemmas
+mod Stored
+mod Blocks

@@ -1,4 +1,3 @@
 pub mod Starts
 pub mod Legal
-pub mod Crossed
 pub mod Check

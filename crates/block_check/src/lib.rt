@@ -3,7 +3,6 @@
 
 mod check;
 mod cost;
-mod crossed;
 mod least;
 mod rightness;
 mod starts;

@@ -1,8 +1,7 @@
 use Rattle.std.proofs.Common.{◌≡◌, ℕ, ◌≤◌, Some, Option, IfSome, subst, arith, leb-true, le-leb}
 use Rattle.rt_base.specs.declared.walk.Walk.{Walk}
 use Rattle.track_graph.specs.Searches.{Reading, IsLeast, walk_cost}
-use Rattle.track_graph.specs.States.{net_state}
-use Rattle.plain_route.specs.Senses.{reading_of}
+use Rattle.plain_route.specs.Stocks.{stock_reading}
 use Rattle.block_check.specs.Legal.{IsLegalAt}
 use Rattle.block_check.proofs.least.is_least.Goals as goal
 
@@ -13,8 +12,8 @@ pub returns : goal.returns
 returns g c =
     let d = c.args.ground.now.design.now in
     let n : ℕ = c.args.ground.now.net in
-    let own = net_state c.args.ground.now.state.now n in
-    let r : Reading = reading_of d c.args.ground.now.state.now n c.args.ground.now.sense.now in
+    let own = c.args.ground.now.own.now in
+    let r : Reading = stock_reading d (g.K.Stock.rips_of c.args.ground.now.stock.now) n c.args.ground.now.sense.now (g.K.Stock.shapes c.args.ground.now.stock.now) in
     let w : Walk = c.args.walk.now in
     let best : Walk = c.in-Some-2.best in
     let given : IsLegalAt d n own r w c.in-Some.cost = some-at (IsLegalAt d n own r w) c.in_ok-cost.field-0 c.in-Some.cost c.in-Some.is c.in_ok-cost.ensures.some in
