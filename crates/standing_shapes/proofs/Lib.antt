@@ -1,3 +1,3 @@
-mod Counts
+pub mod Counts
 mod SameShape
 pub mod StandingLemmas

@@ -6,5 +6,5 @@ mod put;
 mod take;
 
 pub use block::add_block;
-pub use put::{add_state, add_walk, stored};
-pub use take::take_walks;
+pub use put::{add_shapes, add_state, add_walk, stored};
+pub use take::{take_shapes, take_walks};

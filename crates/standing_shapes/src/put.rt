@@ -12,8 +12,8 @@ use shape_grid::{ShapeStore, Tile};
 use std::alloc::Global;
 use track_graph::{Design, State, walk_shapes};
 
-/// Adds these shapes.
-fn add_shapes<S: ShapeStore>(shapes: &[Shape], store: &mut S) -> Result<(), Memory>
+/// Adds these shapes. The only error is want of memory, after which the store may have some of them.
+pub fn add_shapes<S: ShapeStore>(shapes: &[Shape], store: &mut S) -> Result<(), Memory>
     ensures { OnOk result (AreAdded shapes.now (S.shapes store.old) (S.shapes store.new)) }
 {
     for shape in shapes {

@@ -10,8 +10,8 @@ use shape_grid::ShapeStore;
 use std::alloc::Global;
 use track_graph::{Design, walk_shapes};
 
-/// Takes these shapes out.
-fn take_shapes<S: ShapeStore>(shapes: &[Shape], store: &mut S)
+/// Takes these shapes out of a store that has them all. Takes no memory.
+pub fn take_shapes<S: ShapeStore>(shapes: &[Shape], store: &mut S)
     requires { AreAmong shapes.now (S.shapes store.old) }
     ensures { AreAdded shapes.now (S.shapes store.new) (S.shapes store.old) }
 {

@@ -77,8 +77,8 @@ impl NetState {
         })
     }
 
-    /// Joins the pin of an entry.
-    fn join(&mut self, kind: EntryKind)
+    /// Joins the pin of an entry. Takes no memory.
+    pub fn join(&mut self, kind: EntryKind)
         requires { IfSome (pin_of kind) (λ pin. pin < length self.old.joined) }
         ensures { self.new ≡ record self.old { joined = join_pin kind self.old.joined } }
     {
@@ -87,8 +87,8 @@ impl NetState {
         }
     }
 
-    /// Takes away what stands, and counts a rip.
-    fn empty(&mut self)
+    /// Takes away what stands, but that the first pin is joined, and counts a rip. Takes no memory.
+    pub fn empty(&mut self)
         ensures { self.new ≡ emptied_net self.old }
     {
         self.walks.items.clear();
