@@ -1,3 +1,3 @@
 pub mod Counts
-mod SameShape
+pub mod SameShape
 pub mod StandingLemmas
