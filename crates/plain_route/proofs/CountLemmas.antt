@@ -33,7 +33,7 @@ parts_of : (m : ℕ) (parts : List (ℕ × List Metal)) → All (IsOf m) (parts_
 parts_of m [] = All-nil (IsOf m)
 parts_of m (p ∷ ps) = All-append (IsOf m) (shapes_of m p.1) (parts_shapes m ps) (metal_of m p.1) (parts_of m ps)
 
-walks_of : (d : Design) (m : ℕ) (ws : List Walk) → All (IsOf m) (flat_map (walk_shapes_of d m) ws)
+pub walks_of : (d : Design) (m : ℕ) (ws : List Walk) → All (IsOf m) (flat_map (walk_shapes_of d m) ws)
 walks_of d m [] = All-nil (IsOf m)
 walks_of d m (w ∷ ws) = All-append (IsOf m) (walk_shapes_of d m w) (flat_map (walk_shapes_of d m) ws) (parts_of m (walk_parts d m w)) (walks_of d m ws)
 
