@@ -27,7 +27,7 @@ standing-push d base (x ∷ xs) net =
     ∙ sym (append_assoc (net_shapes d base x) (standing_from d every_net (base + 1) xs) (net_shapes d (base + length (x ∷ xs)) net))
 
 -- one net changed: the shapes that it had leave, and those that it has now come
-standing-set : (d : Design) (measure : Shape → ℕ) (nets : List NetState) (k base place : ℕ) (new : NetState) → k < length nets → place ≡ base + k
+pub standing-set : (d : Design) (measure : Shape → ℕ) (nets : List NetState) (k base place : ℕ) (new : NetState) → k < length nets → place ≡ base + k
     → sum_by measure (standing_from d every_net base (slice_set nets k new)) + sum_by measure (net_shapes d place (get_or nets k blank))
     ≡ sum_by measure (standing_from d every_net base nets) + sum_by measure (net_shapes d place new)
 standing-set d measure [] k base place new l e = absurd (omega arith)
