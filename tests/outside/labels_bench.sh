@@ -4,13 +4,13 @@
 #   tests/outside/labels_bench.sh [--random COUNT] [--cases 'KIND:LINES:REACH ..']
 # First the answers on so many random arenas, which the plain program also finds by a search over each
 # place. Then a table: instructions of `label` by callgrind, its labels, and what of a second search in
-# the cleared arena the system sees. KIND is bridges, runs or factors; LINES of each direction are cut
+# the cleared arena the system sees. KIND is bridges, runs, factors or uneven; LINES of each direction are cut
 # into intervals of REACH crossings. Wants rustc, valgrind, strace and GNU time. The program rests on a
 # C function that is taken to say whatever it would have to prove, so it shows counts and no proof.
 set -eu
 top=$(cd "$(dirname "$0")/../.." && pwd)
 count=20000
-cases='bridges:70:10 bridges:220:10 bridges:705:10 runs:70:10 runs:220:10 runs:705:10 factors:70:10 factors:220:10 factors:705:10 factors:300:300'
+cases='bridges:70:10 bridges:220:10 bridges:705:10 runs:70:10 runs:220:10 runs:705:10 factors:70:10 factors:220:10 factors:705:10 factors:300:300 uneven:100:10'
 usage() { sed -n '4s/^# *//p' "$0" >&2; exit 2; }
 while [ $# -gt 0 ]; do
     [ $# -ge 2 ] || usage
