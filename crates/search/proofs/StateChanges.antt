@@ -1,5 +1,5 @@
 -- A view after a change of one net.
-use Rattle.std.proofs.Common.{◌≡◌, ◌≢◌, ◌∙◌, ℕ, ◌+◌, ◌<◌, ◌≤◌, List, [], ◌∷◌, ◌++◌, Bool, true, false, cond, refl, sym, ap, subst, length, get_or, filter, Contains, All, arith, inl, inr, nat_eq, Option, Some, None, unwrap_or, Any, is_some, flat_map}
+use Rattle.std.proofs.Common.{◌≡◌, ◌≢◌, ◌∙◌, ℕ, ◌+◌, ◌<◌, ◌≤◌, List, [], ◌∷◌, ◌++◌, Bool, true, false, cond, refl, sym, ap, subst, length, get_or, filter, Contains, All, arith, inl, inr, nat_eq, Option, Some, None, unwrap_or, Any, is_some, flat_map, Result, Ok, Err, OnOk}
 use Rattle.std.specs.List.{sum_by, AllZip}
 use Rattle.std.proofs.lemmas.Bool.{cases_lt, eqb-true}
 use Rattle.std.proofs.lemmas.Bool.Decides.{eqb_tells}
@@ -229,3 +229,26 @@ turned-same d n had has old new held turn = record {
     by_test : (m : ℕ) (b : Bool) → (b ≡ true → is_some (entry_of old.nets m) ≡ true) → is_some (cond b (Some has) (entry_of old.nets m)) ≡ is_some (entry_of old.nets m)
     by_test m true h = sym (h refl)
     by_test m false h = refl
+
+-- a net is taken out of the view, shapes come or go, and the net is put back
+pub turned-view : (d : Design) (n : ℕ) (had has : NetState) (old taken mid now : View)
+    → taken.pieces ≡ old.pieces → taken.rips ≡ old.rips → ((m : ℕ) → entry_of taken.nets m ≡ cond (nat_eq n m) None (entry_of old.nets m))
+    → AllZip (HasTurned d n had has) taken.pieces mid.pieces → mid.nets ≡ taken.nets → mid.rips ≡ taken.rips
+    → now.pieces ≡ mid.pieces → ((m : ℕ) → entry_of now.nets m ≡ cond (nat_eq n m) (Some has) (entry_of mid.nets m)) → ((m : ℕ) → entry_of now.rips m ≡ cond (nat_eq n m) (Some has.rips) (entry_of mid.rips m))
+    → IsTurned d n had has old now
+turned-view d n had has old taken mid now same_pieces same_rips took turns mid_nets mid_rips now_pieces put_net put_rips = record {
+  pieces = subst (λ (ps : List Piece). AllZip (HasTurned d n had has) ps now.pieces) same_pieces (subst (λ (ps : List Piece). AllZip (HasTurned d n had has) taken.pieces ps) (sym now_pieces) turns);
+  nets = put-back n has old.nets taken.nets now.nets took (λ m. put_net m ∙ ap (λ (es : List (ℕ × NetState)). cond (nat_eq n m) (Some has) (entry_of es m)) mid_nets);
+  rips = λ m. put_rips m ∙ ap (λ (es : List (ℕ × ℕ)). cond (nat_eq n m) (Some has.rips) (entry_of es m)) (mid_rips ∙ same_rips);
+}
+
+-- what follows of two things that hold where there is an answer
+pub where-ok : {A E : Type 0} {P Q R : Type 0} (r : Result A E) → (P → Q → R) → OnOk r P → OnOk r Q → OnOk r R
+where-ok (Ok a) f p q = f p q
+where-ok (Err e) f p q = tt
+
+pub same-trans : (first then last : View) → HasSame first then → HasSame then last → HasSame first last
+same-trans first then last one two = record { tiles = two.tiles ∙ one.tiles; nets = λ n. two.nets n ∙ one.nets n }
+
+pub same-none : (v : View) → HasSame v v
+same-none v = record { tiles = refl; nets = λ n. refl }

@@ -148,13 +148,8 @@ impl View {
     {
         let shapes = walk_shapes(alloc, design, net, &walk)?;
         look_at(shapes.as_slice());
-        add_to_all(
-            alloc,
-            &mut self.pieces.items,
-            &design.grid,
-            shapes.as_slice(),
-        )?;
         let own = self.take_net(net);
+        self.add_shapes(alloc, &design.grid, shapes.as_slice())?;
         self.put_back(net, with_walk(own, walk)?)
     }
 
@@ -182,12 +177,7 @@ impl View {
     {
         let mut own = self.take_net(net);
         let shapes = shapes_of_walks(alloc, design, net, own.walks.as_slice())?;
-        take_from_all(
-            alloc,
-            &mut self.pieces.items,
-            &design.grid,
-            shapes.as_slice(),
-        )?;
+        self.take_shapes(alloc, &design.grid, shapes.as_slice())?;
         own.empty();
         self.put_back(net, own)
     }

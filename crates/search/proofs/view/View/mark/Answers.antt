@@ -1,20 +1,29 @@
-use Rattle.std.proofs.Common.{rules, ◌≡◌, ℕ, ◌≤ℤ◌, pos, ◌<◌, None, Some, nat_eq, if◌then◌else◌, All, filter, flat_map, length, get_or, IfOk, OnOk, ◌+◌, ◌-◌, ◌*◌, ◌≤◌, ◌/◌, ◌%◌, Bool, true, false, nat_lt, List, [], ◌∷◌, ◌++◌, slice_set, bit_and, bit_or, Fits, w8, w32, w64, Bor, MutBor}
-use Rattle.rt_base.specs.declared.tech.Shape.{Shape as ShapeOf}
-use Rattle.search.specs.Changes.{AllGained, AllLost, HasGained, HasNetsOf, HasSame}
-use Rattle.search.specs.Tables.{entry_of}
-use Rattle.search.specs.Views.{HasNet, is_on, StandsFor}
-use Rattle.search.specs.declared.piece.Piece.{Piece as PieceOf}
-use Rattle.shape_grid.specs.Tiling.{IsUpright}
-use Rattle.standing_shapes.specs.Standing.{AreAmong}
-use Rattle.track_graph.specs.Conditions.{IsBlockOf, IsNetOf}
-use Rattle.track_graph.specs.Designs.{IsDesign}
-use Rattle.track_graph.specs.NetWalks.{IsWalkOf}
-use Rattle.track_graph.specs.States.{after, emptied, emptied_net, net_state, with_mark, with_net, with_walk}
-use Rattle.track_graph.specs.Walks.{walk_shapes_of}
-use Rattle.track_graph.specs.declared.design.Design.{Design as DesignOf}
-use Rattle.track_graph.specs.declared.history.State.{State as StateOf}
+use Rattle.std.proofs.Common.{◌≡◌, true, refl, subst, arith}
+use Rattle.std.specs.List.{sum_by}
+use Rattle.search.proofs.Masks.{failing}
+use Rattle.search.proofs.OnTiles.{is_upright}
+use Rattle.search.proofs.StateChanges.{IsTurned, mark-turns, turned-view, view-turned, where-ok}
+use Rattle.track_graph.specs.States.{net_shapes, net_state}
+use Rattle.track_graph.specs.declared.history.NetState.{NetState}
+use Rattle.track_graph.proofs.StateLemmas.{with_mark-kept}
 use Rattle.search.proofs.view.View.mark.Goals as goal
 
--- src/change.rt:162:5
+abbrev marked : NetState → NetState
+marked own = record { walks = own.walks; joined = own.joined; rips = own.rips; stuck = true }
+
 pub returns-clause-stands : goal.returns-clause-stands
-returns-clause-stands c = ?
+returns-clause-stands c = λ d.
+    let n = c.args.net in
+    let own = c.take_net-own.result in
+    let old = c.args.self.now in
+    let taken = c.take_net-own.new.self in
+    let now = c.put_back.new.self in
+    where-ok c.put_back.result
+    (λ nets rips. λ s stood is_net.
+    let own_is : own ≡ net_state s n = stood.of_nets n own c.take_net-own.ensures.value in
+    let turn : IsTurned d n own (marked own) old now =
+    turned-view d n own (marked own) old taken taken now c.take_net-own.ensures.pieces c.take_net-own.ensures.rips c.take_net-own.ensures.rest (mark-turns d n own (marked own) taken.pieces refl) refl refl c.put_back.ensures.pieces nets rips in
+    let turned : IsTurned d n (net_state s n) (marked (net_state s n)) old now = subst (λ (x : NetState). IsTurned d n x (marked x) old now) own_is turn in
+    let same : sum_by (failing is_upright) (net_shapes d n (marked (net_state s n))) ≡ sum_by (failing is_upright) (net_shapes d n (net_state s n)) = refl in
+    view-turned d s n (marked (net_state s n)) old now (omega (arith, is_net, stood.of_design.nets)) (with_mark-kept d s n stood.of_design is_net) stood turned (omega (arith, same)))
+    c.put_back.ensures.nets c.put_back.ensures.rips
