@@ -1,9 +1,8 @@
 -- Lists whose items are changed one after the other, each in its place.
-use Rattle.std.proofs.Common.{◌≡◌, ◌∙◌, ℕ, suc, ◌+◌, ◌<◌, ◌≤◌, List, ◌∷◌, ◌++◌, [], length, get_or, set, take, refl, sym, ap, subst, arith, All, map}
+use Rattle.std.proofs.Common.{◌≡◌, ◌∙◌, ℕ, suc, ◌+◌, ◌<◌, ◌≤◌, List, ◌∷◌, ◌++◌, [], length, get_or, set, take, refl, sym, ap, subst, arith, map}
 use Rattle.std.specs.List.{AllZip}
 use Rattle.std.proofs.lemmas.List.{length-set, get_or-set_other, take_more, take_more_set, take_all}
-use Rattle.std.proofs.lemmas.List.Elements.{AllZip-get_or, AllZip-push}
-use Rattle.std.proofs.lemmas.Slice.Zip.{AllZip-long}
+use Rattle.std.proofs.lemmas.List.Elements.{AllZip-push}
 
 -- the first i items are changed, and the others aren't
 pub record IsChangedTo {X : Type 0} (R : X → X → Type 0) (i : ℕ) (first now : List X) : Type 0 where

@@ -1,5 +1,5 @@
 -- Entries of a table, copied one after the other.
-use Rattle.std.proofs.Common.{◌≡◌, ◌∙◌, ℕ, zero, suc, ◌+◌, ◌<◌, List, [], ◌∷◌, Bool, true, false, cond, length, get_or, take, refl, sym, ap, subst, nat_eq, arith, inl, inr, slice_get, Some, Option, unwrap_or}
+use Rattle.std.proofs.Common.{◌≡◌, ◌∙◌, ℕ, zero, suc, ◌+◌, ◌<◌, List, [], ◌∷◌, Bool, false, cond, length, get_or, take, sym, ap, nat_eq, arith, inl, inr, slice_get, Some, Option, unwrap_or}
 use Rattle.std.specs.List.{AllByRecursion, IsDistinct}
 use Rattle.std.specs.Map.{keys_of}
 use Rattle.std.proofs.lemmas.Bool.Decides.{eqb_tells}

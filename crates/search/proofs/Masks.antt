@@ -1,11 +1,7 @@
 -- Sums over the items of a list that pass a test, and lists that a sum finds nothing in.
-use Rattle.std.proofs.Common.{◌≡◌, ◌∙◌, ℕ, suc, ◌+◌, ◌<◌, ◌≤◌, List, ◌∷◌, ◌++◌, [], Bool, true, false, cond, ◌&&◌, length, get_or, filter, refl, sym, ap, subst, arith, All, Contains, int_le, IsTrue, inl, inr}
-use lib.Dec.{leb}
+use Rattle.std.proofs.Common.{◌≡◌, ◌∙◌, ℕ, suc, ◌+◌, ◌<◌, ◌≤◌, List, ◌∷◌, [], Bool, true, false, cond, length, get_or, filter, refl, sym, ap, arith}
 use Rattle.std.specs.List.{sum_by}
-use Rattle.std.proofs.lemmas.Bool.{and_parts, cases_lt}
-use Rattle.std.proofs.lemmas.List.Elements.{All-get_or, All-from_get_or}
-use Rattle.std.proofs.lemmas.List.Sums.{sum_by-cons, get_or-le-sum_by, sum_by-append}
-use Rattle.rt_base.specs.declared.tech.Shape.{Shape}
+use Rattle.std.proofs.lemmas.List.Sums.{sum_by-cons, get_or-le-sum_by}
 
 -- the measure where a test holds, else 0
 abbrev pub masked : {X : Type 0} → (X → Bool) → (X → ℕ) → X → ℕ

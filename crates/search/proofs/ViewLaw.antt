@@ -1,12 +1,11 @@
 -- The law of views: a view of all tiles stands for its state as a store of the state's shapes does.
-use Rattle.std.proofs.Common.{◌≡◌, ◌∙◌, ℕ, zero, suc, ◌+◌, ◌*◌, ◌<◌, ◌≤◌, List, [], ◌∷◌, ◌++◌, Bool, true, false, cond, ◌||◌, refl, sym, ap, subst, length, get_or, filter, flat_map, Contains, All, arith, inl, inr, pos}
-use Rattle.std.specs.List.{list_any, Any, sum_by}
+use Rattle.std.proofs.Common.{◌≡◌, ◌∙◌, ℕ, zero, suc, ◌<◌, List, [], ◌∷◌, Bool, true, false, cond, ◌||◌, refl, sym, ap, subst, length, get_or, filter, flat_map, Contains, arith, inl, inr}
+use Rattle.std.specs.List.{list_any, Any}
 use Rattle.std.proofs.lemmas.Int.{ints}
 use Rattle.std.proofs.lemmas.List.Elements.{Contains-append_cases}
-use Rattle.std.proofs.lemmas.List.Folds.{Any-from_list_any, list_any-from_Any, list_any-append}
+use Rattle.std.proofs.lemmas.List.Folds.{Any-from_list_any, list_any-from_Any}
 use Rattle.rt_base.proofs.Lists.{Any-here, Any-there}
 use Rattle.rt_base.specs.Tiles.{side_of}
-use Rattle.rt_base.specs.declared.tech.Owner.TheVariants.{Net as OfNet}
 use Rattle.rt_base.specs.declared.tech.Shape.{Shape}
 use Rattle.plain_route.specs.Stocks.{StandFor}
 use Rattle.plain_route.proofs.AnyLemmas.{any_by_sums}

@@ -1,5 +1,5 @@
 -- What a view becomes when shapes come or go, and what it keeps.
-use Rattle.std.specs.Prelude.{◌≡◌, ℕ, ◌<◌, List, length, filter, map, is_some, All}
+use Rattle.std.specs.Prelude.{◌≡◌, ℕ, List, filter, map, is_some, All}
 use Rattle.std.specs.List.{AllZip}
 use Rattle.rt_base.specs.declared.grid.Grid.{Grid}
 use Rattle.rt_base.specs.declared.tech.Shape.{Shape}

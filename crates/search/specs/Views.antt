@@ -1,5 +1,5 @@
 -- Views: what stands on some tiles in a state.
-use Rattle.std.specs.Prelude.{◌≡◌, ℕ, ◌+◌, ◌*◌, ◌/◌, ◌%◌, ◌<◌, List, ◌++◌, Bool, false, ◌&&◌, nat_le, filter, All, Any, Contains, Option, Some, IsSome, unwrap_or, flat_map, sum_by}
+use Rattle.std.specs.Prelude.{◌≡◌, ℕ, ◌*◌, ◌/◌, ◌%◌, ◌<◌, List, ◌++◌, Bool, false, ◌&&◌, nat_le, filter, All, Any, Contains, Some, IsSome, unwrap_or, flat_map, sum_by}
 use Rattle.rt_base.specs.Tiles.{columns_of, rows_of, column_of, row_of}
 use Rattle.rt_base.specs.declared.grid.Grid.{Grid}
 use Rattle.rt_base.specs.declared.tech.Owner.TheVariants.{Net as OfNet}

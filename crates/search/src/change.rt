@@ -77,7 +77,7 @@ fn shapes_of_walks(
 }
 
 /// Looks at the sides of shapes, which are in order.
-fn look_at(shapes: &[Shape])
+pub(crate) fn look_at(shapes: &[Shape])
     ensures { All (λ (b : ShapeOf). IsUpright b.rect) shapes.now }
 {
     for shape in shapes {

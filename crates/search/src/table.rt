@@ -69,6 +69,13 @@ impl<T: Copies> Table<T> {
         Ok(())
     }
 
+    /// Puts a copy of a value beside a number, as `set` does.
+    pub(crate) fn set_copy(&mut self, alloc: Global, net: u32, value: &T) -> Result<(), Memory>
+        ensures { OnOk result ((n : ℕ) → entry_of self.new n ≡ (if nat_eq net n then Some value.now else entry_of self.old n)) }
+    {
+        self.set(net, value.copy(alloc)?)
+    }
+
     /// The same values beside the same numbers. The only error is want of memory.
     pub fn copy(&self, alloc: Global) -> Result<Table<T>, Memory>
         ensures { IfOk result (λ copied. copied ≡ self.now) }
