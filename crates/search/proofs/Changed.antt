@@ -18,11 +18,11 @@ pub changed-more : {X : Type 0} (R : X → X → Type 0) (i : ℕ) (first now : 
 changed-more R i first now old new less is changes h = record {
   long = length-set now i new ∙ h.long;
   done =
-  let there : old ≡ get_or first i old = is ∙ h.rest i old (omega arith) in
-  let front : take (i + 1) first ≡ take i first ++ old ∷ [] = take_more first i old (omega (arith, less, h.long)) ∙ ap (λ x. take i first ++ x ∷ []) (sym there) in
-  let here : take (i + 1) (set now i new) ≡ take i now ++ new ∷ [] = take_more_set now i new less in
-  subst (λ xs. AllZip R xs (take (i + 1) (set now i new))) (sym front)
-  (subst (λ ys. AllZip R (take i first ++ old ∷ []) ys) (sym here) (AllZip-push R (take i first) (take i now) old new h.done changes));
+      let there : old ≡ get_or first i old = is ∙ h.rest i old (omega arith) in
+      let front : take (i + 1) first ≡ take i first ++ old ∷ [] = take_more first i old (omega (arith, less, h.long)) ∙ ap (λ x. take i first ++ x ∷ []) (sym there) in
+      let here : take (i + 1) (set now i new) ≡ take i now ++ new ∷ [] = take_more_set now i new less in
+      subst (λ xs. AllZip R xs (take (i + 1) (set now i new))) (sym front)
+      (subst (λ ys. AllZip R (take i first ++ old ∷ []) ys) (sym here) (AllZip-push R (take i first) (take i now) old new h.done changes));
   rest = λ j d from. get_or-set_other now i j new d (λ e. absurd (omega (arith, e, from))) ∙ h.rest j d (omega (arith, from));
 }
 

@@ -169,12 +169,12 @@ pub add-turns : (d : Design) (n : ℕ) (own : NetState) (w : Walk) (olds news : 
 add-turns d n own w olds news gained = zip-then _ _ olds news (λ k p q less h. record {
   same = h.same;
   turned = λ measure.
-  let on : Shape → Bool = is_on d.grid (get_or olds k p).no in
-  let all : net_shapes d n (with_one own w) ≡ net_shapes d n own ++ walk_shapes_of d n w = longer-shapes d n own w in
-  let parts : filter on (net_shapes d n (with_one own w)) ≡ filter on (net_shapes d n own) ++ filter on (walk_shapes_of d n w) = ap (filter on) all ∙ filter-append on (net_shapes d n own) (walk_shapes_of d n w) in
-  let sums : sum_by measure (filter on (net_shapes d n (with_one own w))) ≡ sum_by measure (filter on (net_shapes d n own)) + sum_by measure (filter on (walk_shapes_of d n w)) =
-  ap (sum_by measure) parts ∙ sum_by-append measure (filter on (net_shapes d n own)) (filter on (walk_shapes_of d n w)) in
-  omega (arith, sums, h.gained measure);
+      let on : Shape → Bool = is_on d.grid (get_or olds k p).no in
+      let all : net_shapes d n (with_one own w) ≡ net_shapes d n own ++ walk_shapes_of d n w = longer-shapes d n own w in
+      let parts : filter on (net_shapes d n (with_one own w)) ≡ filter on (net_shapes d n own) ++ filter on (walk_shapes_of d n w) = ap (filter on) all ∙ filter-append on (net_shapes d n own) (walk_shapes_of d n w) in
+      let sums : sum_by measure (filter on (net_shapes d n (with_one own w))) ≡ sum_by measure (filter on (net_shapes d n own)) + sum_by measure (filter on (walk_shapes_of d n w)) =
+      ap (sum_by measure) parts ∙ sum_by-append measure (filter on (net_shapes d n own)) (filter on (walk_shapes_of d n w)) in
+      omega (arith, sums, h.gained measure);
 }) gained
 
 pub add-upright : (d : Design) (n : ℕ) (own : NetState) (w : Walk) → All (λ (b : Shape). IsUpright b.rect) (walk_shapes_of d n w) → sum_by (failing is_upright) (net_shapes d n (with_one own w)) ≤ sum_by (failing is_upright) (net_shapes d n own)
@@ -189,10 +189,10 @@ pub empty-turns : (d : Design) (n : ℕ) (own : NetState) (olds news : List Piec
 empty-turns d n own olds news gained = zip-then _ _ olds news (λ k p q less h. record {
   same = sym h.same;
   turned = λ measure.
-  let lost : sum_by measure (get_or olds k p).tile ≡ sum_by measure (filter (is_on d.grid (get_or olds k p).no) (net_shapes d n own)) + sum_by measure (get_or news k q).tile =
-  subst (λ (t : ℕ). sum_by measure (get_or olds k p).tile ≡ sum_by measure (filter (is_on d.grid t) (net_shapes d n own)) + sum_by measure (get_or news k q).tile) (sym h.same) (h.gained measure) in
-  let nothing : sum_by measure (filter (is_on d.grid (get_or olds k p).no) (net_shapes d n (emptied_net own))) ≡ 0 = refl in
-  omega (arith, lost, nothing);
+      let lost : sum_by measure (get_or olds k p).tile ≡ sum_by measure (filter (is_on d.grid (get_or olds k p).no) (net_shapes d n own)) + sum_by measure (get_or news k q).tile =
+      subst (λ (t : ℕ). sum_by measure (get_or olds k p).tile ≡ sum_by measure (filter (is_on d.grid t) (net_shapes d n own)) + sum_by measure (get_or news k q).tile) (sym h.same) (h.gained measure) in
+      let nothing : sum_by measure (filter (is_on d.grid (get_or olds k p).no) (net_shapes d n (emptied_net own))) ≡ 0 = refl in
+      omega (arith, lost, nothing);
 }) gained
 
 -- a net is marked

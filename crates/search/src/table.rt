@@ -1,5 +1,5 @@
 //! Values beside the numbers of nets.
-ghost use Rattle.std.specs.Prelude.{◌≡◌, ℕ, [], None, Some, if◌then◌else◌, nat_eq, IfOk, OnOk};
+ghost use Rattle.std.specs.Prelude.{◌≡◌, ℕ, [], None, Some, if◌then◌else◌, nat_eq, IfOk, OnOk, OnErr};
 ghost use Rattle.std.specs.Option.{option_copied};
 ghost use Rattle.search.specs.Tables.{entry_of};
 
@@ -64,6 +64,7 @@ impl<T: Copies> Table<T> {
     /// the only error, the table is as it was.
     pub fn set(&mut self, net: u32, value: T) -> Result<(), Memory>
         ensures ok { OnOk result ((n : ℕ) → entry_of self.new n ≡ (if nat_eq net n then Some value else entry_of self.old n)) }
+        ensures err { OnErr result (self.new ≡ self.old) }
     {
         self.of.insert(net, value)?;
         Ok(())

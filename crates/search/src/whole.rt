@@ -20,11 +20,7 @@ use std::alloc::Global;
 use track_graph::{Design, NetState, State};
 
 /// The shapes that stand in a state, in some order.
-fn shapes_of_state(
-    alloc: Global,
-    design: &Design,
-    state: &State,
-) -> Result<Vec<Shape>, Memory>
+fn shapes_of_state(alloc: Global, design: &Design, state: &State) -> Result<Vec<Shape>, Memory>
     requires design { IsDesign design.now }
     requires state { IsStateOf design.now state.now }
     ensures sums { IfOk result (λ v. (measure : ShapeOf → ℕ) → sum_by measure v.items ≡ sum_by measure (state_shapes design.now state.now)) }

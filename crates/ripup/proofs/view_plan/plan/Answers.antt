@@ -22,12 +22,14 @@ choose-requires-clause-unjoined c =
 
 pub choose-requires-clause-some : goal.choose-requires-clause-some
 choose-requires-clause-some c =
-    let w = c.requires.waiting in
-    (w.state, record {
-      state = w.stands.of_design;
-      stands = view-stands c.args.design.now w.state c.args.view.now c.requires.design w.stands c.requires.tiles;
-      known = w.stands.of_nets c.args.net c.of_net.result.now c.of_net.ensures;
-    })
+    let w = c.requires.waiting in (
+      w.state,
+      record {
+        state = w.stands.of_design;
+        stands = view-stands c.args.design.now w.state c.args.view.now c.requires.design w.stands c.requires.tiles;
+        known = w.stands.of_nets c.args.net c.of_net.result.now c.of_net.ensures;
+      },
+    )
 
 pub returns : goal.returns
 returns c = λ s stands.
