@@ -2,3 +2,4 @@ pub mod Hulls
 pub mod Headline
 pub mod Progress
 pub mod Choices
+pub mod Waiting

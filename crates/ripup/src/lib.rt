@@ -7,7 +7,9 @@ mod net_order;
 mod next;
 mod one_thread;
 mod progress;
+mod view_plan;
 
 pub use choice::Choice;
 pub use net_order::order;
 pub use one_thread::finish;
+pub use view_plan::plan;

@@ -1,0 +1,4 @@
+pub mod Changes
+pub mod Tables
+pub mod Views
+pub mod Wholes
