@@ -1,0 +1,3 @@
+pub mod Forbidden
+pub mod Gaps
+pub mod Rules
