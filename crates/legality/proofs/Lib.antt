@@ -1,2 +1,4 @@
+mod FoundLemmas
 mod NearLemmas
+mod RowLemmas
 mod RuleLemmas

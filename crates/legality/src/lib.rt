@@ -2,10 +2,15 @@
 //! position.
 #![tactic(auto)]
 
+mod band;
+mod blocked;
+mod found;
 mod mover;
 mod owner;
+mod row;
 mod rule;
 
+pub use blocked::Blocked;
 pub use mover::Mover;
 pub use owner::{OtherOwner, Others};
 pub use rule::{WireRule, forbidden};
