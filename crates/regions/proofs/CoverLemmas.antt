@@ -8,15 +8,15 @@ use Rattle.rt_base.specs.Ranges.{AreSidesWithin}
 use Rattle.rt_base.specs.Sides.{Sides}
 use Rattle.rt_base.specs.declared.geometry.Span.{Span}
 use Rattle.rt_base.proofs.Ranges.{sides_from_within, sides-weaker}
+use Rattle.rt_base.specs.declared.tech.Tech.{Tech}
 use Rattle.track_graph.specs.declared.design.Design.{Design}
 use Rattle.track_graph.specs.declared.design.Net.{Net}
 use Rattle.track_graph.specs.Designs.{IsDesign, IsNet}
-use Rattle.track_graph.specs.Guide.{InGuide}
 use Rattle.track_graph.specs.Levels.{track_system_of, is_horizontal}
 use Rattle.track_graph.specs.Searches.{guide_of}
 use Rattle.regions.specs.declared.cover.Line.{Line}
 use Rattle.regions.specs.Spans.{InSpan, InSpans, AreFull}
-use Rattle.regions.specs.Covered.{point_at, line_on, InBox, IsPart, IsCovered}
+use Rattle.regions.specs.Covered.{point_at, line_on, InBox, IsPart}
 use Rattle.regions.proofs.Lists.{any_push, any_more}
 use Rattle.rt_base.proofs.Lists.{All-at, Any-none}
 use Rattle.regions.proofs.SpanLemmas.{ends_in}
@@ -93,9 +93,6 @@ guide_sides_wide d n boxes ok is =
     subst (All (λ (box : ℕ × Sides). AreSidesWithin (2 ^ 61) box.1)) (sym is)
     (All-weaker (λ (box : ℕ × Sides). AreSidesWithin (2 ^ 32) box.1) (λ (box : ℕ × Sides). AreSidesWithin (2 ^ 61) box.1) (λ box h. sides-weaker (2 ^ 32) (2 ^ 61) box.1 (lit≤ tt) h) (guide_of d n) (guide_sides d n ok))
 
--- the parts, said of the design
-pub covered_same : (d : Design) (net level : ℕ) (line : ℤ) (in_x : Bool) (at : ℤ) (boxes : List (ℕ × Sides)) (spans : List Span) → boxes ≡ guide_of d net → in_x ≡ is_horizontal d.tech level → at ≡ line → ((z : ℤ) → InSpans spans z ↔ InGuide boxes level (point_at (record { in_x = in_x; at = at }) z)) → (z : ℤ) → InSpans spans z ↔ IsCovered d net level line z
-covered_same d net level line in_x at boxes spans of_net of_level on_line exact z =
-    subst (λ (bs : List (ℕ × Sides)). InSpans spans z ↔ InGuide bs level (point_at (line_on d.tech level line) z)) of_net
-    (subst (λ (b : Bool). InSpans spans z ↔ InGuide boxes level (point_at (record { in_x = b; at = line }) z)) of_level
-    (subst (λ (a : ℤ). InSpans spans z ↔ InGuide boxes level (point_at (record { in_x = in_x; at = a }) z)) on_line (exact z)))
+-- a track line of a level, by its parts
+pub line_is : (tech : Tech) (level : ℕ) (line : ℤ) (in_x : Bool) (at : ℤ) → in_x ≡ is_horizontal tech level → at ≡ line → (let l : Line = record { in_x = in_x; at = at } in l ≡ line_on tech level line)
+line_is tech level line in_x at of_level on_line = rw (of_level, on_line) refl

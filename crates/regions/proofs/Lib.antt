@@ -1,7 +1,7 @@
 pub mod Bounds
 mod Greatest
-mod Lists
-mod CoverLemmas
-mod SpanLemmas
+pub mod Lists
+pub mod CoverLemmas
+pub mod SpanLemmas
 pub mod TileLemmas
 mod HandMade

@@ -4,6 +4,7 @@ ghost use Rattle.rt_base.specs.Geometry.{Holds};
 ghost use Rattle.track_graph.specs.Designs.{IsDesign};
 ghost use Rattle.track_graph.specs.Guide.{InGuide};
 ghost use Rattle.track_graph.specs.Levels.{levels};
+ghost use Rattle.track_graph.specs.Searches.{guide_of};
 ghost use Rattle.regions.specs.Spans.{InSpan, InSpans, AreFull, AreSpansOf};
 ghost use Rattle.regions.specs.Covered.{point_at, InBox, IsPart, IsCovered};
 
@@ -67,6 +68,24 @@ fn parts(alloc: Global, line: Line, level: u8, guide: &[(u8, Rect)]) -> Result<V
     Ok(spans)
 }
 
+/// The maximal spans of whole numbers along a line that lie in boxes of a level of the net's guide,
+/// ascending: of a line in x they are values of x, else of y, in DEF database units. The line needs
+/// not run in the level's direction. A net that the design lacks has none. The only error is want of
+/// memory.
+pub fn covered_along(
+    alloc: Global,
+    design: &Design,
+    net: u32,
+    level: u8,
+    line: Line,
+) -> Result<Vec<Span>, Memory>
+    requires { IsDesign design.now }
+    ensures { IfOk result (λ v. AreSpansOf (λ z. InGuide (guide_of design.now net) level (point_at line z)) v.items) }
+{
+    let parts = parts(alloc, line, level, guide_of(design, net))?;
+    maximal_spans(alloc, parts)
+}
+
 /// The maximal spans of whole numbers along a track line of a level that lie in the net's guide,
 /// ascending: of a line in x they are values of x, else of y, in DEF database units. A net that the
 /// design lacks has none.
@@ -85,6 +104,5 @@ pub fn covered(
         in_x: is_level_horizontal(&design.tech, level),
         at: line,
     };
-    let parts = parts(alloc, line, level, guide_of(design, net))?;
-    maximal_spans(alloc, parts)
+    covered_along(alloc, design, net, level, line)
 }

@@ -9,6 +9,7 @@ mod spans;
 mod tests;
 mod tiles;
 
-pub use cover::covered;
+pub use cover::{Line, covered, covered_along};
 pub use margin::halo;
+pub use spans::maximal_spans;
 pub use tiles::tiles_of;

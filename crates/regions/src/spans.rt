@@ -45,7 +45,7 @@ fn join(alloc: Global, first: Span, rest: &[Span]) -> Result<Vec<Span>, Memory>
     Ok(maximal)
 }
 
-/// The maximal spans of the numbers in these.
+/// The maximal spans of the numbers in these, ascending. The only error is want of memory.
 pub fn maximal_spans(alloc: Global, spans: Vec<Span>) -> Result<Vec<Span>, Memory>
     requires full { AreFull spans.items }
     requires small { All (λ s. s.hi <ℤ pos (2 ^ 62)) spans.items }

@@ -1,0 +1,4 @@
+mod FoundLemmas
+mod NearLemmas
+mod RowLemmas
+mod RuleLemmas

@@ -1,0 +1,5 @@
+pub mod Forbidden
+pub mod Found
+pub mod Gaps
+pub mod Rows
+pub mod Rules
