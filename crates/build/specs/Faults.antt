@@ -134,13 +134,15 @@ level_and_guide_fault i = first_of (
     ∷ limit_fault RoutingLayers (length (routing_layers i.lef.layers)) 16
     ∷ [])
 
+-- the sections of DEF: vias, what is placed, and wiring
+unfoldable pub section_fault : Input → Option BuildError
+section_fault i = option_or (vias_part i) (option_or (placed_fault i) (wired_fault i))
+
 -- units and names, section by section, each in file order; then levels and guides
 unfoldable pub name_fault : Input → Option BuildError
 name_fault i = first_of (
     unit_fault i
-    ∷ vias_part i
-    ∷ placed_fault i
-    ∷ wired_fault i
+    ∷ section_fault i
     ∷ level_and_guide_fault i
     ∷ [])
 
