@@ -212,7 +212,8 @@ fn looked_up(alloc: Global, given: &Given, options: Options) -> Result<Design, B
 /// first reason why there is none: units, then names and wiring section by section, each in file
 /// order, then layers without tracks, then the guides' entries in file order, and then counts above
 /// their most. `text` is DEF's, with its tokens. Wiring means LEF's vias and DEF's, of which the last
-/// one of a name; both are the design's, and routing uses LEF's alone. Without guides each net's guide is the die on every level.
+/// one of a name; both are the design's, and routing uses LEF's alone. How many there are is tested
+/// before DEF's are read. Without guides each net's guide is the die on every level.
 /// Nets, pins and connections keep their order, and each net its name and the place of its closing
 /// `;`. Fixed shapes stand in the order of components, pins, blockages, special nets and nets.
 pub fn build(
