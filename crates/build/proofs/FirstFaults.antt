@@ -17,7 +17,7 @@ use Rattle.build.specs.declared.error.BuildError.TheVariants.{Memory as OutOfMem
 use Rattle.build.specs.declared.error.Limited.{Limited}
 use Rattle.build.specs.declared.error.Limited.TheVariants.{RoutingLayers, Tracks, FixedShapes, Coordinate, Entries, Tiles, TileShapes}
 use Rattle.build.specs.Built.{fixed_of}
-use Rattle.build.specs.Faults.{first_of, first_by, lines_said, limit_fault, largest_coordinate, level_fault, guide_fault, vias_part, unit_fault, placed_fault, wired_fault, level_and_guide_fault, name_fault, count_faults, count_fault, entry_count, met_count, size_fault}
+use Rattle.build.specs.Faults.{first_of, first_by, lines_said, limit_fault, largest_coordinate, level_fault, guide_fault, unit_fault, section_fault, level_and_guide_fault, name_fault, count_faults, count_fault, entry_count, met_count, size_fault}
 use Rattle.build.specs.Findings.{Finds}
 use Rattle.build.specs.Inputs.{Input}
 use Rattle.build.specs.LookUps.{layer_names_of, net_names}
@@ -103,6 +103,10 @@ fault_here a b x h = ap (λ o. option_or o b) h
 pub fault_later : {X : Type 0} → (a b c : Option X) → a ≡ None → b ≡ c → option_or a b ≡ c
 fault_later a b c h k = ap (λ o. option_or o b) h ∙ k
 
+-- a test after one that finds nothing finds what both do
+pub found_later : {A : Type 0} → (kind : A → Type 0) (r : Result A BuildError) (a b : Option BuildError) → a ≡ None → Finds kind r b → Finds kind r (option_or a b)
+found_later kind r a b none h = subst (Finds kind r) (sym (ap (λ o. option_or o b) none)) h
+
 -- faults of which there are none
 abbrev pub AllNone : List (Option BuildError) → Type 0
 AllNone [] = Unit {0}
@@ -132,8 +136,8 @@ levels_within i h =
 pub few_levels : (i : Input) → name_fault i ≡ None → length (routing_layers i.lef.layers) ≤ 16
 unfolding name_fault
 few_levels i h =
-    let n = none_all (unit_fault i ∷ vias_part i ∷ placed_fault i ∷ wired_fault i ∷ level_and_guide_fault i ∷ []) h in
-    levels_within i n.1.1.1.1.0
+    let n = none_all (unit_fault i ∷ section_fault i ∷ level_and_guide_fault i ∷ []) h in
+    levels_within i n.1.1.0
 
 -- what the fault of counts rules out: too many lines of a level, too many shapes, and shapes too far off
 pub record Counted (i : Input) : Type 0 where

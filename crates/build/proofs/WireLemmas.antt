@@ -8,19 +8,21 @@ use Rattle.rt_base.specs.declared.tech.Owner.{Owner}
 use Rattle.rt_base.specs.declared.tech.Owner.TheVariants.{Net as OfNet}
 use Rattle.rt_base.specs.declared.tech.Shape.{Shape}
 use Rattle.rt_base.specs.declared.tech.Tech.{Tech}
+use Rattle.rt_base.specs.declared.tech.Via.{Via}
 use Rattle.rt_base.specs.Sides.{Sides}
 use Rattle.rt_base.specs.Ranges.{AreSidesWithin}
 use Rattle.track_graph.specs.Designs.{IsFixed}
 use Rattle.track_graph.specs.Metal.{Metal}
 use Rattle.def_wires.specs.Sound.{IsOn}
 use Rattle.def_text.specs.declared.def.DefNet.{DefNet}
+use Rattle.fixed_wires.specs.declared.vias.WireTech.{WireTech}
 use Rattle.cells.specs.Cells.{fixed_shape, fixed_shapes}
 use Rattle.build.specs.declared.wires.WireMetal.{WireMetal}
 use Rattle.build.specs.Built.{placed_of, fixed_of}
 use Rattle.build.specs.Faults.{farthest, largest_coordinate}
 use Rattle.build.specs.Inputs.{Input, IsInput}
 use Rattle.build.specs.LookUps.{connected_rects}
-use Rattle.build.specs.Metals.{AreOn, IsWireMetal, IsOnLayer, wire_shapes}
+use Rattle.build.specs.Metals.{AreOn, IsWireTech, IsWireMetal, AreWires, IsOnLayer, wire_shapes}
 use Rattle.build.specs.Wires.{tech_said, metal_of_net, named_owner, special_shapes, wired_shapes}
 use Rattle.build.proofs.MetalLemmas.{placed_are, connected_few}
 
@@ -92,3 +94,12 @@ all_on i metal ok h =
 -- the rectangles at a place are those of the net there
 pub metal_at : (f : DefNet → List Metal) (nets : List DefNet) (metals : List (List Metal)) (k : ℕ) (net : DefNet) (m : List Metal) → metals ≡ map f nets → k < length nets → net ≡ get_or nets k net → m ≡ get_or metals k m → m ≡ f net
 metal_at f nets metals k net m is within at there = there ∙ ap (λ (ms : List (List Metal)). get_or ms k m) is ∙ get_or-map f nets k net m within ∙ ap f (sym at)
+
+-- the vias of what wiring names, with the rectangles of the wiring
+pub wires_are : (i : Input) (on : WireTech) (metal : WireMetal) → IsWireTech i on → IsWireMetal i metal → AreWires i (on.tech.vias, metal)
+wires_are i on metal o m = record {
+  vias = ap (λ (t : Tech). t.vias) o.tech;
+  few = o.fits.few_vias;
+  vias_on = subst (λ (n : ℕ). All (λ (v : Via). All (IsOn n (2 ^ 60 + 2 ^ 30)) v.rects) on.tech.vias) (ap (λ (t : Tech). length t.layers) o.tech) o.fits.vias;
+  metal = m;
+}

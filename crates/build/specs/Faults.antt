@@ -27,7 +27,7 @@ use Rattle.cells.specs.Owners.{owner_of}
 use Rattle.build.specs.declared.error.BuildError.{BuildError}
 use Rattle.build.specs.declared.error.BuildError.TheVariants.{Scale, NoMacro, NoComponent, NoPin, NoLayer, NoNet, PinTwice, NoTracks, Limit}
 use Rattle.build.specs.declared.error.Limited.{Limited}
-use Rattle.build.specs.declared.error.Limited.TheVariants.{RoutingLayers, UsableVias, Tracks, Nets, FixedShapes, Coordinate, Entries, Tiles, TileShapes}
+use Rattle.build.specs.declared.error.Limited.TheVariants.{RoutingLayers, Vias, UsableVias, Tracks, Nets, FixedShapes, Coordinate, Entries, Tiles, TileShapes}
 use Rattle.build.specs.declared.layer_names.LayerNames.{LayerNames}
 use Rattle.build.specs.Inputs.{Input}
 use Rattle.build.specs.LookUps.{layer_names_of, is_known, net_names, has_component, has_pin}
@@ -80,9 +80,17 @@ connection_fault lef def n c = first_of (
     ∷ fault_if (not (same_owner (owner_of def.nets c) (OfNet n))) (PinTwice c.1)
     ∷ [])
 
+-- a count above its most
+abbrev pub limit_fault : Limited → ℕ → ℕ → Option BuildError
+limit_fault what count most = fault_if (nat_lt most count) (Limit what count most)
+
 -- the items of VIAS
+abbrev pub items_fault : Input → Option BuildError
+items_fault i = option_map wiring_error (vias_fault (tech_said i.lef) i.text i.tokens i.def.vias)
+
+-- how many vias LEF and DEF say, and then the items of VIAS
 abbrev pub vias_part : Input → Option BuildError
-vias_part i = option_map wiring_error (vias_fault (tech_said i.lef) i.text i.tokens i.def.vias)
+vias_part i = option_or (limit_fault Vias (length i.lef.vias + length i.def.vias) 4294967295) (items_fault i)
 
 -- the wiring of a net, where special of a net of SPECIALNETS
 abbrev pub wiring_fault : Input → Bool → DefNet → Option BuildError
@@ -99,10 +107,6 @@ guide_fault names nets guide = option_or (fault_if (not (list_any (bytes_eq guid
 -- a routing layer for which no TRACKS statement is used
 abbrev pub level_fault : List TrackRow → Layer → Option BuildError
 level_fault rows l = fault_if (not (list_any (is_used l) rows)) (NoTracks l.name)
-
--- a count above its most
-abbrev pub limit_fault : Limited → ℕ → ℕ → Option BuildError
-limit_fault what count most = fault_if (nat_lt most count) (Limit what count most)
 
 -- units, and the layers that TRACKS statements name
 unfoldable pub unit_fault : Input → Option BuildError
@@ -134,13 +138,15 @@ level_and_guide_fault i = first_of (
     ∷ limit_fault RoutingLayers (length (routing_layers i.lef.layers)) 16
     ∷ [])
 
+-- the sections of DEF: vias, what is placed, and wiring
+unfoldable pub section_fault : Input → Option BuildError
+section_fault i = option_or (vias_part i) (option_or (placed_fault i) (wired_fault i))
+
 -- units and names, section by section, each in file order; then levels and guides
 unfoldable pub name_fault : Input → Option BuildError
 name_fault i = first_of (
     unit_fault i
-    ∷ vias_part i
-    ∷ placed_fault i
-    ∷ wired_fault i
+    ∷ section_fault i
     ∷ level_and_guide_fault i
     ∷ [])
 

@@ -11,6 +11,7 @@ pub mod Lines
 pub mod LookUps
 pub mod Metals
 pub mod Refusals
+pub mod Rests
 pub mod Standing
 pub mod TrackLines
 pub mod WireErrors

@@ -1,7 +1,8 @@
 -- Wiring that was read, as the code keeps it.
-use Rattle.std.specs.Prelude.{◌≡◌, ◌<◌, ◌^◌, ℕ, true, false, IsTrue, List, length, map, All}
+use Rattle.std.specs.Prelude.{◌≡◌, ◌<◌, ◌+◌, ◌^◌, ℕ, true, false, IsTrue, List, length, map, All}
 use Rattle.rt_base.specs.declared.tech.Owner.TheVariants.{Net as OfNet}
 use Rattle.rt_base.specs.declared.tech.Shape.{Shape}
+use Rattle.rt_base.specs.declared.tech.Via.{Via}
 use Rattle.track_graph.specs.Metal.{Metal}
 use Rattle.def_wires.specs.Names.{AreNamesOf}
 use Rattle.def_wires.specs.Sound.{IsOn, IsTech}
@@ -28,9 +29,12 @@ pub record IsWireMetal (i : Input) (metal : WireMetal) : Type 0 where
   pub special_on : All (AreOn i) metal.special
   pub nets_on : All (AreOn i) metal.nets
 
--- what wiring names, and the rectangles of the wiring that was read by it
-abbrev pub AreWires : Input → WireTech × WireMetal → Type 0
-AreWires i read = IsWireTech i read.0 × IsWireMetal i read.1
+-- the vias that wiring may name, and the rectangles of the wiring
+pub record AreWires (i : Input) (read : List Via × WireMetal) : Type 0 where
+  pub vias : read.0 ≡ (wiring_tech i).vias
+  pub few : length read.0 < 2 ^ 32
+  pub vias_on : All (λ (v : Via). All (IsOn (length i.lef.layers) (2 ^ 60 + 2 ^ 30)) v.rects) read.0
+  pub metal : IsWireMetal i read.1
 
 -- the shapes of the wiring of the net with this number
 abbrev pub wire_shapes : ℕ × List Metal → List Shape

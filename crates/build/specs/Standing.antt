@@ -1,5 +1,6 @@
 -- What is known of an input before its design is put together.
-use Rattle.std.specs.Prelude.{◌≡◌, ◌≤◌, ◌^◌, pos, ◌≤ℤ◌, None, All, length}
+use Rattle.std.specs.Prelude.{◌≡◌, ◌≤◌, ◌^◌, pos, ◌≤ℤ◌, List, None, All, length}
+use Rattle.rt_base.specs.declared.tech.Shape.{Shape}
 use Rattle.rt_base.specs.declared.tech.Tech.{Tech}
 use Rattle.track_graph.specs.declared.design.Options.{Options}
 use Rattle.track_graph.specs.Designs.{IsTech}
@@ -23,6 +24,13 @@ pub record IsAsked (i : Input) (options : Options) (known : Lookup) (index : Net
   pub chosen : AreChosen options
   pub known_is : IsLookup i.lef i.def known
   pub index_is : IsGuideIndex i index
+
+-- the technology and the shapes of an input
+pub record AreDrawn (i : Input) (drawn : Tech × List Shape) : Type 0 where
+  pub tech_of : IsTechOf i drawn.0
+  pub is_tech : IsTech drawn.0
+  pub shapes : drawn.1 ≡ fixed_of i
+  pub layers : All (IsOnLayer (length i.lef.layers)) drawn.1
 
 -- its names and counts pass, and this is its technology
 pub record Stands (i : Input) (options : Options) (known : Lookup) (index : NetGuides) (tech : Tech) : Type 0 where

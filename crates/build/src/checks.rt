@@ -1,9 +1,9 @@
 //! Tests of units, names, wiring, layers without tracks and guides.
 ghost use Rattle.std.specs.Prelude.{◌≡◌, ◌<◌, ◌^◌, All, IfOk, false, length, map, option_map, unwrap_or, []};
 ghost use Rattle.std.specs.List.{enumerate_from, list_any};
-ghost use Rattle.std.specs.Option.{option_copied};
+ghost use Rattle.std.specs.Option.{option_copied, option_or};
 ghost use Rattle.def_text.specs.Defs.{IsDef, IsRange};
-ghost use Rattle.build.specs.Faults.{first_by, scale_fault, layer_fault, row_fault, rects_fault, component_fault, pin_fault, connection_fault, net_fault, guide_fault, level_fault, limit_fault, unit_fault, placed_fault, wired_fault, level_and_guide_fault, name_fault};
+ghost use Rattle.build.specs.Faults.{first_by, scale_fault, layer_fault, row_fault, rects_fault, component_fault, pin_fault, connection_fault, net_fault, guide_fault, level_fault, limit_fault, unit_fault, placed_fault, wired_fault, section_fault, level_and_guide_fault, name_fault};
 ghost use Rattle.build.specs.Findings.{Finds};
 ghost use Rattle.build.specs.Indexes.{Tells};
 ghost use Rattle.build.specs.Inputs.{IsInput, input_by};
@@ -28,7 +28,7 @@ use def_text::{Component, Def, DefNet, IoPin, TrackRow};
 use fixed_wires::WireTech;
 use guide_text::Guides;
 use lef_text::{Lef, Macro};
-use rt_base::{Layer, LayerNo, Name, Rect, Seq};
+use rt_base::{Layer, LayerNo, Name, Rect, Seq, Via};
 use std::alloc::Global;
 
 /// Whether a count is at most so much.
@@ -381,20 +381,48 @@ fn check_levels_and_guides(alloc: Global, given: &Given, known: &Lookup) -> Resu
     check_limit(Limited::RoutingLayers, count, 16)
 }
 
+/// The rectangles of the wiring, which is read once what is placed is tested.
+fn placed_and_wired(
+    alloc: Global,
+    given: &Given,
+    known: &Lookup,
+    on: &WireTech,
+) -> Result<WireMetal, BuildError>
+    requires known { IsKnown given.now known.now }
+    requires on { IsWireTech (input_by given.now) on.now }
+    ensures { Finds (IsWireMetal (input_by given.now)) result (option_or (placed_fault (input_by given.now)) (wired_fault (input_by given.now))) }
+{
+    check_placed(alloc, given, known)?;
+    metal_of_wires(alloc, given, known, on)
+}
+
+/// The sections of DEF: its vias, what is placed, and the wiring. Answers the vias that wiring may
+/// name, and the rectangles of the wiring.
+fn read_sections(
+    alloc: Global,
+    given: &Given,
+    known: &Lookup,
+) -> Result<(Seq<Via>, WireMetal), BuildError>
+    requires { IsKnown given.now known.now }
+    ensures { Finds (AreWires (input_by given.now)) result (section_fault (input_by given.now)) }
+{
+    let on = names_of_wires(alloc, given)?;
+    let metal = placed_and_wired(alloc, given, known, &on)?;
+    Ok((on.tech.vias, metal))
+}
+
 /// Units, names, wiring, layers without tracks and guides, and how many routing layers there are.
-/// Answers what wiring names, and the rectangles of the wiring that was read.
+/// Answers the vias that wiring may name, and the rectangles of the wiring.
 pub fn check_names(
     alloc: Global,
     given: &Given,
     known: &Lookup,
-) -> Result<(WireTech, WireMetal), BuildError>
+) -> Result<(Seq<Via>, WireMetal), BuildError>
     requires { IsKnown given.now known.now }
     ensures { Finds (AreWires (input_by given.now)) result (name_fault (input_by given.now)) }
 {
     check_units(alloc, given, known)?;
-    let on = names_of_wires(alloc, given)?;
-    check_placed(alloc, given, known)?;
-    let metal = metal_of_wires(alloc, given, known, &on)?;
+    let read = read_sections(alloc, given, known)?;
     check_levels_and_guides(alloc, given, known)?;
-    Ok((on, metal))
+    Ok(read)
 }

@@ -12,6 +12,9 @@ pub enum Limited {
     /// ROUTING layers of LEF.
     #[error("routing-layers")]
     RoutingLayers,
+    /// Vias of LEF and of DEF together.
+    #[error("vias")]
+    Vias,
     /// Usable vias of LEF.
     #[error("usable-vias")]
     UsableVias,

@@ -3,12 +3,12 @@ ghost use Rattle.std.specs.Prelude.{◌≡◌, ◌⊎◌, ℤ, pos, ◌+◌, ◌
 ghost use Rattle.std.specs.List.{AllZip};
 ghost use Rattle.def_text.specs.Defs.{IsTrackRow};
 ghost use Rattle.build.specs.TrackLines.{HasLine, line_count, largest_step, routing_layers};
-ghost use Rattle.build.specs.Lines.{HasSomeLine, IsLevel};
+ghost use Rattle.build.specs.Lines.{HasSomeLine, IsLevel, AreLevels};
 
 use crate::track_lines::is_used;
-use def_text::TrackRow;
+use def_text::{Def, TrackRow};
 use pin_access::ascend;
-use rt_base::{Layer, Memory, Seq};
+use rt_base::{Layer, Memory, Seq, Tech};
 use std::alloc::Global;
 use track_graph::Tracks;
 
@@ -103,11 +103,12 @@ fn steps_of_levels(alloc: Global, layers: &[Layer], rows: &[TrackRow]) -> Result
 }
 
 /// The tracks of the levels.
-pub fn tracks(alloc: Global, layers: &[Layer], rows: &[TrackRow]) -> Result<Tracks, Memory>
-    requires { All IsTrackRow rows.now }
-    ensures lines { IfOk result (λ t. AllZip (IsLevel rows.now) (routing_layers layers.now) t.lines) }
-    ensures steps { IfOk result (λ t. t.largest_step ≡ map (largest_step rows.now) (routing_layers layers.now)) }
+pub fn tracks(alloc: Global, tech: &Tech, def: &Def) -> Result<Tracks, Memory>
+    requires { All IsTrackRow def.now.tracks }
+    ensures { IfOk result (AreLevels def.now tech.now) }
 {
+    let layers = tech.layers.as_slice();
+    let rows = def.tracks.as_slice();
     Ok(Tracks {
         lines: lines_of_levels(alloc, layers, rows)?,
         largest_step: steps_of_levels(alloc, layers, rows)?,

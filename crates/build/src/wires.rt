@@ -1,15 +1,16 @@
 //! The wiring that DEF brings along, read once.
-ghost use Rattle.std.specs.Prelude.{◌≡◌, ◌<◌, ◌^◌, All, true, false, length, map, IfOk};
+ghost use Rattle.std.specs.Prelude.{◌≡◌, ◌<◌, ◌+◌, ◌^◌, All, true, false, length, map, IfOk};
 ghost use Rattle.std.specs.List.{enumerate_from};
 ghost use Rattle.def_text.specs.Defs.{IsRange};
-ghost use Rattle.build.specs.Faults.{first_by, vias_part, wiring_fault};
+ghost use Rattle.build.specs.Faults.{first_by, items_fault, vias_part, wiring_fault};
 ghost use Rattle.build.specs.Findings.{Finds};
 ghost use Rattle.build.specs.Inputs.{IsInput, input_by};
 ghost use Rattle.build.specs.Metals.{IsWireTech, AreOn};
 ghost use Rattle.build.specs.Wires.{tech_said, metal_of_net as metal_said};
 
+use crate::checks::check_limit;
 use crate::copies::{copy_layers, copy_vias};
-use crate::error::BuildError;
+use crate::error::{BuildError, Limited};
 use crate::given::Given;
 use def_text::DefNet;
 use fixed_wires::{WireTech, wire_tech, wires_metal};
@@ -34,14 +35,25 @@ fn said_tech(alloc: Global, lef: &Lef) -> Result<Tech, Memory>
     })
 }
 
+/// What wiring names, where its vias can be numbered.
+fn numbered_names(alloc: Global, given: &Given) -> Result<WireTech, BuildError>
+    requires input { IsInput (input_by given.now) }
+    requires few { length given.now.lef.now.vias + length given.now.def.now.vias < 2 ^ 32 }
+    ensures { Finds (IsWireTech (input_by given.now)) result (items_fault (input_by given.now)) }
+{
+    let tech = said_tech(alloc, given.lef)?;
+    let vias = given.def.vias.as_slice();
+    Ok(wire_tech(alloc, tech, given.text, given.tokens, vias)?)
+}
+
 /// What wiring names: LEF's layers and vias, and behind these the vias of DEF.
 pub fn names_of_wires(alloc: Global, given: &Given) -> Result<WireTech, BuildError>
     requires { IsInput (input_by given.now) }
     ensures { Finds (IsWireTech (input_by given.now)) result (vias_part (input_by given.now)) }
 {
-    let tech = said_tech(alloc, given.lef)?;
-    let vias = given.def.vias.as_slice();
-    Ok(wire_tech(alloc, tech, given.text, given.tokens, vias)?)
+    let count = given.lef.vias.len() as u128 + given.def.vias.len() as u128;
+    check_limit(Limited::Vias, count, 4_294_967_295)?;
+    numbered_names(alloc, given)
 }
 
 /// The rectangles of the wiring of a net.

@@ -90,7 +90,8 @@ fn add_via(alloc: Global, tech: &mut Tech, name: &[u8], text: &[u8]) -> Result<(
 
 /// Three layers and two vias of LEF.
 fn technology(alloc: Global) -> Result<Tech, WireFault>
-    ensures { IfOk result IsTech }
+    ensures tech { IfOk result IsTech }
+    ensures count { IfOk result (λ tech. length tech.vias ≡ 2) }
 {
     let mut tech = layers_alone(alloc)?;
     add_via(
@@ -134,7 +135,8 @@ fn two_items(
     ranges: &((u32, u32), (u32, u32)),
     count: usize,
 ) -> Result<Seq<DefVia>, WireFault>
-    ensures { IfOk result (λ vias. All (λ (v : ADefVia). IsRange count v.tokens) vias) }
+    ensures ranges { IfOk result (λ vias. All (λ (v : ADefVia). IsRange count v.tokens) vias) }
+    ensures count { IfOk result (λ vias. length vias ≡ 2) }
 {
     let first = item(alloc, b"W", ranges.0, count)?;
     let second = item(alloc, b"D", ranges.1, count)?;

@@ -1,5 +1,5 @@
 //! The technology of wiring: LEF's, with the vias of DEF.
-ghost use Rattle.std.specs.Prelude.{◌≡◌, ◌≢◌, ◌++◌, ◌+◌, ◌^◌, length, map, All, IfOk, MatchResult, None, Some};
+ghost use Rattle.std.specs.Prelude.{◌≡◌, ◌≢◌, ◌++◌, ◌+◌, ◌^◌, ◌<◌, ◌≤◌, length, map, All, IfOk, MatchResult, None, Some};
 ghost use Rattle.rt_base.specs.Tokens.{AllInside};
 ghost use Rattle.rt_base.specs.declared.tech.Via.{Via as AVia};
 ghost use Rattle.def_text.specs.declared.def.DefVia.{DefVia as ADefVia};
@@ -36,6 +36,7 @@ fn read_vias(
     requires ranges { All (λ (v : ADefVia). IsRange (length tokens.now) v.tokens) vias.now }
     ensures read { MatchResult result (λ read. vias_fault tech.now text.now tokens.now vias.now ≡ None) (λ e. e ≢ OutOfMemory → vias_fault tech.now text.now tokens.now vias.now ≡ Some e) }
     ensures value { IfOk result (λ read. read ≡ values (map (via_said tech.now text.now tokens.now) vias.now)) }
+    ensures count { IfOk result (λ read. length read ≤ length vias.now) }
     ensures sound { IfOk result (λ read. All (λ (v : AVia). All (IsOn (length tech.now.layers) (2 ^ 60 + 2 ^ 30)) v.rects) read) }
 {
     let mut read = Seq::new(alloc);
@@ -46,9 +47,10 @@ fn read_vias(
     Ok(read)
 }
 
-/// A technology with these vias behind its own, and its names. There are fewer than 2^32 vias in all.
+/// A technology with these vias behind its own, and its names.
 fn with_vias(alloc: Global, tech: Tech, vias: Seq<Via>) -> Result<WireTech, Memory>
     requires tech { IsTech tech }
+    requires few { length tech.vias + length vias < 2 ^ 32 }
     requires vias { All (λ (v : AVia). All (IsOn (length tech.layers) (2 ^ 60 + 2 ^ 30)) v.rects) vias }
     ensures tech { IfOk result (λ w. w.tech ≡ record tech { vias = tech.vias ++ vias }) }
     ensures names { IfOk result (λ w. AreNamesOf w.names w.tech) }
@@ -56,9 +58,6 @@ fn with_vias(alloc: Global, tech: Tech, vias: Seq<Via>) -> Result<WireTech, Memo
 {
     let mut tech = tech;
     append(&mut tech.vias, vias)?;
-    if tech.vias.len() > u32::MAX as usize {
-        return Err(Memory);
-    }
     let names = TechNames::new(alloc, &tech)?;
     Ok(WireTech { tech, names })
 }
@@ -66,7 +65,6 @@ fn with_vias(alloc: Global, tech: Tech, vias: Seq<Via>) -> Result<WireTech, Memo
 /// The technology with the vias of DEF behind its own, in the order of the file, and its names (DEF
 /// 5.8, Vias). `vias` are the items of VIAS in these tokens of a text. The first item that isn't a via
 /// of this technology's layers is refused with the fault that `def_wires::read_via` finds in it.
-/// `Memory` is also the answer where there are 2^32 vias or more.
 pub fn wire_tech(
     alloc: Global,
     tech: Tech,
@@ -75,6 +73,7 @@ pub fn wire_tech(
     vias: &[DefVia],
 ) -> Result<WireTech, WireFault>
     requires tech { IsTech tech }
+    requires few { length tech.vias + length vias.now < 2 ^ 32 }
     requires tokens { AllInside (length text.now) tokens.now }
     requires ranges { All (λ (v : ADefVia). IsRange (length tokens.now) v.tokens) vias.now }
     ensures read { MatchResult result (λ w. vias_fault tech text.now tokens.now vias.now ≡ None) (λ e. e ≢ OutOfMemory → vias_fault tech text.now tokens.now vias.now ≡ Some e) }

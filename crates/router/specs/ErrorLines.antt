@@ -17,7 +17,7 @@ use Rattle.def_wires.specs.declared.error.WireFault.TheVariants as wire
 use Rattle.build.specs.declared.error.BuildError.{BuildError}
 use Rattle.build.specs.declared.error.BuildError.TheVariants as build
 use Rattle.build.specs.declared.error.Limited.{Limited}
-use Rattle.build.specs.declared.error.Limited.TheVariants.{RoutingLayers, UsableVias, Tracks, Nets, FixedShapes, Coordinate, Entries, Tiles, TileShapes}
+use Rattle.build.specs.declared.error.Limited.TheVariants.{RoutingLayers, Vias, UsableVias, Tracks, Nets, FixedShapes, Coordinate, Entries, Tiles, TileShapes}
 use Rattle.router.specs.declared.words.WordsFault.{WordsFault}
 use Rattle.router.specs.declared.words.WordsFault.TheVariants.{Shape, Twice, Number, SameName}
 use Rattle.router.specs.declared.refusal.Refusal.{Refusal}
@@ -112,6 +112,7 @@ wire_text wire.Memory = codes "memory"
 
 abbrev pub limited_text : Limited → List ℕ
 limited_text RoutingLayers = codes "routing-layers"
+limited_text Vias = codes "vias"
 limited_text UsableVias = codes "usable-vias"
 limited_text Tracks = codes "tracks"
 limited_text Nets = codes "nets"

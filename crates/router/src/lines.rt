@@ -218,6 +218,7 @@ fn limited_word(what: Limited) -> &'static [u8]
 {
     match what {
         Limited::RoutingLayers => b"routing-layers",
+        Limited::Vias => b"vias",
         Limited::UsableVias => b"usable-vias",
         Limited::Tracks => b"tracks",
         Limited::Nets => b"nets",

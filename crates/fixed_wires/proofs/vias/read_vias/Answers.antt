@@ -1,10 +1,11 @@
-use Rattle.std.proofs.Common.{◌≡◌, ◌+◌, ◌^◌, ◌++◌, ◌∷◌, [], List, map, length, drop, get_or, Result, Ok, All, sym, ap, subst, ◌∙◌, append_assoc}
+use Rattle.std.proofs.Common.{◌≡◌, ◌+◌, ◌^◌, ◌++◌, ◌∷◌, [], List, map, length, drop, get_or, Result, Ok, All, sym, ap, subst, ◌∙◌, append_assoc, arith}
+use Rattle.std.proofs.lemmas.List.{length-append}
 use Rattle.std.proofs.lemmas.List.Elements.{All-push}
 use Rattle.rt_base.specs.declared.tech.Via.{Via}
 use Rattle.def_text.specs.declared.def.DefVia.{DefVia}
 use Rattle.def_wires.specs.Sound.{IsOn}
 use Rattle.fixed_wires.specs.FixedWires.{values, via_said}
-use Rattle.fixed_wires.proofs.Answering.{value_next, no_fault_next}
+use Rattle.fixed_wires.proofs.Answering.{value_next, no_fault_next, values_few}
 use Rattle.fixed_wires.proofs.vias.read_vias.Goals as goal
 
 pub read_via-requires-clause-tokens : goal.read_via-requires-clause-tokens
@@ -28,3 +29,9 @@ items-preserved c =
           ∙ ap (λ (vs : List Via). vs ++ rest) (sym c.in_ok-push.ensures.ok);
       sound = subst (λ (vs : List Via). All On vs) (sym c.in_ok-push.ensures.ok) (All-push On c.items.read via c.items.invariant.sound c.in_ok-read_via.ensures.sound);
     }
+
+pub returns-clause-count : goal.returns-clause-count
+returns-clause-count c =
+    let said = via_said c.args.tech.now c.args.text.now c.args.tokens.now in
+    let rest = values (map said (drop c.items.via-index c.args.vias.now)) in
+    omega (arith, ap length c.items.invariant.read, length-append c.items.read rest, values_few said c.args.vias.now)
